@@ -1,0 +1,4 @@
+pub mod Classes
+pub mod Fronts
+pub mod Numbers
+pub mod Reading
