@@ -1,10 +1,9 @@
 -- A front and the rest after it: what they are of a text, and of a text put together.
 use Rattle.std.proofs.Common.{◌≡◌, ℕ, ◌+◌, ◌-◌, Bool, true, List, [], ◌∷◌, ◌++◌, length, take, drop, refl, sym, ap, ◌∙◌, inl, inr, arith}
-use Rattle.std.specs.List.{AllPass}
-use Rattle.std.proofs.lemmas.Bool.{cases_Bool}
+use Rattle.std.proofs.lemmas.Bool.{cases_Bool, and_parts}
+use Rattle.std.specs.List.{list_all}
 use Rattle.std.proofs.lemmas.List.{take_at, drop_at, length-append}
-use Rattle.std.proofs.lemmas.List.Elements.{All-nil, All-cons, All-head, All-tail}
-use Rattle.text_scan.specs.Fronts.{front_of, rest_of, StopsAt}
+use Rattle.text_scan.specs.Fronts.{Passes, front_of, rest_of, StopsAt}
 
 pub front-rest : (test : ℕ → Bool) (text : List ℕ) → front_of test text ++ rest_of test text ≡ text
 unfolding front_of rest_of
@@ -15,13 +14,13 @@ front-rest test (byte ∷ text) =
       | inr fails ↦ rw (fails) refl
     ]
 
-pub front_passes : (test : ℕ → Bool) (text : List ℕ) → AllPass test (front_of test text)
+pub front_passes : (test : ℕ → Bool) (text : List ℕ) → Passes test (front_of test text)
 unfolding front_of
-front_passes test [] = All-nil (λ x. test x ≡ true)
+front_passes test [] = refl
 front_passes test (byte ∷ text) =
     elim (cases_Bool (test byte)) [
-      | inl passes_it ↦ rw (passes_it) (All-cons (λ x. test x ≡ true) byte (front_of test text) passes_it (front_passes test text))
-      | inr fails ↦ rw (fails) (All-nil (λ x. test x ≡ true))
+      | inl passes_it ↦ rw (passes_it, passes_it) (front_passes test text)
+      | inr fails ↦ rw (fails) refl
     ]
 
 pub rest_stops : (test : ℕ → Bool) (text : List ℕ) → StopsAt test (rest_of test text)
@@ -44,19 +43,19 @@ rest-stops test [] stops = refl
 rest-stops test (byte ∷ text) stops = rw (stops) refl
 
 -- a front that passes, before a text that doesn't go on with it, is the longest one
-pub front-append : (test : ℕ → Bool) (front rest : List ℕ) → AllPass test front → StopsAt test rest → front_of test (front ++ rest) ≡ front
+pub front-append : (test : ℕ → Bool) (front rest : List ℕ) → Passes test front → StopsAt test rest → front_of test (front ++ rest) ≡ front
 unfolding front_of
 front-append test [] rest passes stops = front-stops test rest stops
 front-append test (byte ∷ front) rest passes stops =
-    let passes_it : test byte ≡ true = All-head (λ x. test x ≡ true) byte front passes in
-    rw (passes_it) (ap (λ (t : List ℕ). byte ∷ t) (front-append test front rest (All-tail (λ x. test x ≡ true) byte front passes) stops))
+    let parts = and_parts (test byte) (list_all test front) passes in
+    rw (parts.0) (ap (λ (t : List ℕ). byte ∷ t) (front-append test front rest parts.1 stops))
 
-pub rest-append : (test : ℕ → Bool) (front rest : List ℕ) → AllPass test front → StopsAt test rest → rest_of test (front ++ rest) ≡ rest
+pub rest-append : (test : ℕ → Bool) (front rest : List ℕ) → Passes test front → StopsAt test rest → rest_of test (front ++ rest) ≡ rest
 unfolding rest_of
 rest-append test [] rest passes stops = rest-stops test rest stops
 rest-append test (byte ∷ front) rest passes stops =
-    let passes_it : test byte ≡ true = All-head (λ x. test x ≡ true) byte front passes in
-    rw (passes_it) (rest-append test front rest (All-tail (λ x. test x ≡ true) byte front passes) stops)
+    let parts = and_parts (test byte) (list_all test front) passes in
+    rw (parts.0) (rest-append test front rest parts.1 stops)
 
 pub length-rest : (test : ℕ → Bool) (text : List ℕ) → length (front_of test text) + length (rest_of test text) ≡ length text
 length-rest test text = sym (length-append (front_of test text) (rest_of test text)) ∙ ap length (front-rest test text)

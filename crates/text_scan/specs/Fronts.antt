@@ -1,5 +1,10 @@
 -- The longest front of a text whose bytes all pass a test, what follows it, and a fixed text at the front.
-use Rattle.std.specs.Prelude.{ℕ, Bool, false, ◌≡◌, List, [], ◌∷◌, Option, Some, None, if◌then◌else◌, ◌==◌}
+use Rattle.std.specs.Prelude.{ℕ, Bool, true, false, ◌≡◌, List, [], ◌∷◌, Option, Some, None, if◌then◌else◌, ◌==◌}
+use Rattle.std.specs.List.{list_all}
+
+-- each byte passes
+abbrev pub Passes : (ℕ → Bool) → List ℕ → Type 0
+Passes test text = list_all test text ≡ true
 
 -- the longest front whose bytes all pass
 unfoldable pub front_of : (ℕ → Bool) → List ℕ → List ℕ
