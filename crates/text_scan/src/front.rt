@@ -1,4 +1,5 @@
 ghost use Rattle.std.specs.Prelude.{◌≡◌, option_map};
+ghost use Rattle.std.specs.List.{list_all};
 ghost use Rattle.text_scan.specs.declared.class.Class.TheVariants.{Blank};
 ghost use Rattle.text_scan.specs.Classes.{has};
 ghost use Rattle.text_scan.specs.Fronts.{front_of, rest_of, stripped_of};
@@ -27,6 +28,13 @@ pub fn split_front(text: &[u8], class: Class) -> (&[u8], &[u8])
 {
     let rest = rest_after(text, class);
     text.split_at(text.len() - rest.len())
+}
+
+/// Whether each byte of the text is of the class.
+pub fn is_all(text: &[u8], class: Class) -> bool
+    ensures { result ≡ list_all (has class) text.now }
+{
+    text.iter().all(|byte| class.has(*byte))
 }
 
 /// The text without the white space at its front.

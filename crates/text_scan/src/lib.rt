@@ -8,5 +8,5 @@ mod front;
 mod radix;
 
 pub use class::Class;
-pub use front::{after_blanks, split_front, stripped};
+pub use front::{after_blanks, is_all, split_front, stripped};
 pub use radix::{Radix, number};

@@ -1,0 +1,3 @@
+pub mod PlainForms
+pub mod Names
+pub mod Keeping
