@@ -1,10 +1,11 @@
 -- Names that differ: one more name, and a name that stood before.
-use Rattle.std.proofs.Common.{◌≡◌, ◌≢◌, ℕ, Bool, true, false, not, ◌&&◌, ◌||◌, List, [], ◌∷◌, ◌++◌, map, refl, sym, ap, ◌∙◌, ◌⊎◌, inl, inr, arith}
+use Rattle.std.proofs.Common.{◌≡◌, ◌≢◌, ℕ, zero, suc, ◌+◌, ◌<◌, Bool, true, false, not, ◌&&◌, ◌||◌, List, [], ◌∷◌, ◌++◌, map, length, get_or, refl, sym, ap, ◌∙◌, ◌⊎◌, inl, inr, arith}
 use Rattle.std.specs.List.{list_any}
 use Rattle.std.specs.Str.{bytes_eq}
 use Rattle.std.proofs.lemmas.Bool.{cases_Bool, and_parts, and_from, and_right, or_parts, or_from, or_cases, or_left, or_right, not-true, not_from_true, not_from_false, true≢false}
-use Rattle.std.proofs.lemmas.List.Folds.{list_any-append}
+use Rattle.std.proofs.lemmas.List.Folds.{list_any-append, list_any_at, Any-from_list_any}
 use Rattle.std.proofs.lemmas.Slice.Eq.{bytes_eq-Decides}
+use Rattle.svd_plain.specs.Forms.{AreDistinct}
 use Rattle.svd_plain.specs.Reading.{differ}
 
 pub bytes_eq_turned : (x y : List ℕ) (answer : Bool) → bytes_eq x y ≡ answer → bytes_eq y x ≡ answer
@@ -37,4 +38,34 @@ differ_again (x ∷ front) name more found =
               list_any-append (bytes_eq x) front (name ∷ more) ∙ or_right (list_any (bytes_eq x) front) (bytes_eq x name || list_any (bytes_eq x) more) (or_left (bytes_eq x name) (list_any (bytes_eq x) more) (bytes_eq_turned name x true same)) in
           rw behind refl
       | inr before ↦ and_right (not (list_any (bytes_eq x) (front ++ name ∷ more))) (differ (front ++ name ∷ more)) (differ_again front name more before)
+    ]
+
+-- the test finds names that are all different
+names_at_index : (x : List ℕ) (xs : List (List ℕ)) (j : ℕ) (d : List ℕ) → list_any (bytes_eq x) xs ≡ false → j < length xs → x ≡ get_or xs j d → ⊥
+names_at_index x xs j d none within same =
+    true≢false (sym (list_any_at (bytes_eq x) xs j d within ((bytes_eq-Decides x (get_or xs j d)).1 same)) ∙ none)
+
+pub differ_takes : (names : List (List ℕ)) → differ names ≡ true → AreDistinct names
+unfolding differ
+differ_takes [] apart i j d before within = absurd (omega arith)
+differ_takes (x ∷ xs) apart zero zero d before within = absurd (omega arith)
+differ_takes (x ∷ xs) apart zero (suc j) d before within =
+    let parts = and_parts (not (list_any (bytes_eq x) xs)) (differ xs) apart in
+    names_at_index x xs j d (not-true (list_any (bytes_eq x) xs) parts.0) (omega arith)
+differ_takes (x ∷ xs) apart (suc i) zero d before within = absurd (omega arith)
+differ_takes (x ∷ xs) apart (suc i) (suc j) d before within =
+    differ_takes xs (and_parts (not (list_any (bytes_eq x) xs)) (differ xs) apart).1 i j d (omega arith) (omega arith)
+
+AreDistinct-tail : (x : List ℕ) (xs : List (List ℕ)) → AreDistinct (x ∷ xs) → AreDistinct xs
+AreDistinct-tail x xs distinct i j d before within = distinct (suc i) (suc j) d (omega arith) (omega arith)
+
+pub differ_again_all : (names : List (List ℕ)) → AreDistinct names → differ names ≡ true
+unfolding differ
+differ_again_all [] distinct = refl
+differ_again_all (x ∷ xs) distinct =
+    elim (cases_Bool (list_any (bytes_eq x) xs)) [
+      | inl found ↦
+          let at = Any-from_list_any (bytes_eq x) xs found in
+          absurd (distinct 0 (suc at.0) at.1 (omega arith) (omega (arith, at.2)) ((bytes_eq-Decides x at.1).0 at.4 ∙ sym at.3))
+      | inr none ↦ and_from (not (list_any (bytes_eq x) xs)) (differ xs) (not_from_false (list_any (bytes_eq x) xs) none) (differ_again_all xs (AreDistinct-tail x xs distinct))
     ]

@@ -18,11 +18,15 @@ use Rattle.svd_plain.specs.declared.fault.PlainFault.TheVariants.{NotPlain, Memo
 use Rattle.svd_plain.specs.Elements.{start_of, end_of}
 use Rattle.svd_plain.specs.Forms.{is_plain_name, is_plain_text, fits_at}
 
+-- Reading gives nothing, or memory ran out.
+abbrev pub Fails : {Y : Type 0} → PlainFault → Option Y → Type 0
+Fails NotPlain read = read ≡ None
+Fails Memory read = Unit {0}
+
 -- What a function returned, seen by `view`, is what reading gives, unless memory ran out.
 abbrev pub Gives : {X Y : Type 0} → (X → Y) → Result X PlainFault → Option Y → Type 0
 Gives view (Ok x) read = read ≡ Some (view x)
-Gives view (Err NotPlain) read = read ≡ None
-Gives view (Err Memory) read = Unit {0}
+Gives view (Err fault) read = Fails fault read
 
 -- the content of an element, and what follows the element
 unfoldable pub content_at : Element → List ℕ → Option (List ℕ × List ℕ)
@@ -72,10 +76,13 @@ register_at base text = do
   rest ← after_block (end_of Register) offset.1
   if fits_at base offset.0 then Some (record { name = name.0; offset = offset.0 }, rest) else None
 
+abbrev pub register_list_at : ℕ → List ℕ → Option (List PlainRegister × List ℕ)
+register_list_at base text = items_at (begins Register) (register_at base) text
+
 unfoldable pub registers_at : ℕ → List ℕ → Option (List PlainRegister × List ℕ)
 registers_at base text = do
   inside ← after_block (start_of Registers) text
-  registers ← items_at (begins Register) (register_at base) inside
+  registers ← register_list_at base inside
   rest ← after_block (end_of Registers) registers.1
   if differ (map (λ register. register.name) registers.0) then Some (registers.0, rest) else None
 
@@ -88,10 +95,13 @@ peripheral_at text = do
   rest ← after_block (end_of Peripheral) registers.1
   Some (record { name = name.0; base = base.0; registers = registers.0 }, rest)
 
+abbrev pub peripheral_list_at : List ℕ → Option (List PlainPeripheral × List ℕ)
+peripheral_list_at text = items_at (begins Peripheral) peripheral_at text
+
 unfoldable pub peripherals_at : List ℕ → Option (List PlainPeripheral × List ℕ)
 peripherals_at text = do
   inside ← after_block (start_of Peripherals) text
-  peripherals ← items_at (begins Peripheral) peripheral_at inside
+  peripherals ← peripheral_list_at inside
   rest ← after_block (end_of Peripherals) peripherals.1
   if differ (map (λ peripheral. peripheral.name) peripherals.0) then Some (peripherals.0, rest) else None
 

@@ -6,6 +6,10 @@
 mod element;
 mod fault;
 mod form;
+mod peripheral;
+mod reader;
+mod register;
 mod siblings;
 
 pub use fault::PlainFault;
+pub use reader::{one_reading, read_plain};

@@ -124,3 +124,9 @@ module _ {X : Type 0} (begins : List ℕ → Bool) (item_at : List ℕ → Optio
     pub is_done : (front : List X) (text : List ℕ) (total : Option (List X × List ℕ)) → begins text ≡ false → with_front front (items_at begins item_at text) ≡ total → total ≡ Some (front, text)
     is_done front text total other so_far =
         sym so_far ∙ ap (with_front front) (items-stop shrinks text other) ∙ ap (λ (xs : List X). given (xs, text)) (append-nil front)
+
+-- a list of items takes no less than nothing
+pub ReadsAll-length : {X : Type 0} (reads : X → List ℕ → List ℕ → Type 0) → ((x : X) (text rest : List ℕ) → reads x text rest → length rest ≤ length text)
+    → (items : List X) (text rest : List ℕ) → ReadsAll reads items text rest → length rest ≤ length text
+ReadsAll-length reads one [] text rest same = omega (arith, ap length same)
+ReadsAll-length reads one (x ∷ items) text rest all = omega (arith, one x text all.0 all.1, ReadsAll-length reads one items all.0 rest all.2)
