@@ -1,5 +1,5 @@
 -- What the reader on lists gives is what the device's text says.
-use Rattle.std.proofs.Common.{◌≡◌, ℕ, List, Option, Some, None, Result, Ok, Err, refl, sym, ap, ◌∙◌}
+use Rattle.std.proofs.Common.{◌≡◌, ℕ, List, Result, Ok, Err, refl, sym, ◌∙◌}
 use Rattle.std.specs.Prelude.{IfOk, IsErrOf, MatchResult}
 use Rattle.text_scan.proofs.Steps.{some_is}
 use Rattle.svd_model.specs.declared.device.Device.{Device}

@@ -1,5 +1,5 @@
 -- What elements hold: names, texts and numbers, read and read again.
-use Rattle.std.proofs.Common.{◌≡◌, ℕ, ◌+◌, ◌<◌, ◌≤◌, ◌^◌, Bool, true, false, ◌&&◌, not, eqb, ltb, cond, List, [], ◌∷◌, ◌++◌, length, Option, Some, None, refl, sym, ap, subst, ◌∙◌, ◌⊎◌, inl, inr, true≢false, arith}
+use Rattle.std.proofs.Common.{◌≡◌, ℕ, ◌^◌, true, false, ◌&&◌, eqb, ltb, cond, List, [], ◌∷◌, ◌++◌, Option, Some, None, refl, sym, ap, subst, ◌∙◌, inl, inr, true≢false, arith}
 use Rattle.std.specs.Prelude.{codes}
 use Rattle.std.specs.List.{list_all}
 use Rattle.std.proofs.lemmas.Bool.{cases_Bool, and_parts, and_from}
@@ -92,9 +92,9 @@ decimal_not_marked (first ∷ second ∷ text) all =
           let digit = (and_parts (has Digit second) (list_all (has Digit) text) (and_parts (has Digit first) (list_all (has Digit) (second ∷ text)) all).1).0 in
           absurd (true≢false (sym digit ∙ ap (has Digit) (sym (eqb-true 120 second marked)) ∙ x_no_digit))
       | inr other ↦ elim (cases_Bool (eqb 48 first)) [
-          | inl zero_first ↦ rw (zero_first, other) refl
-          | inr no_zero ↦ rw no_zero refl
-        ]
+        | inl zero_first ↦ rw (zero_first, other) refl
+        | inr no_zero ↦ rw no_zero refl
+      ]
     ]
 
 pub number_takes : (text : List ℕ) (value : ℕ) → number_in text ≡ Some value → IsPlainNumber text value

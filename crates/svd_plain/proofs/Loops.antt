@@ -1,8 +1,7 @@
 -- Steps of the reader that the lists of siblings share.
-use Rattle.std.proofs.Common.{◌≡◌, ℕ, Bool, true, false, cond, List, [], ◌∷◌, ◌++◌, map, Option, Some, None, refl, sym, ap, ◌∙◌}
+use Rattle.std.proofs.Common.{◌≡◌, ℕ, Bool, true, cond, List, [], ◌∷◌, map, Option, Some, None, refl, sym, ap, ◌∙◌}
 use Rattle.text_scan.specs.Follows.{after_block}
 use Rattle.text_scan.specs.Lists.{items_at}
-use Rattle.text_scan.specs.Steps.{◌>>=◌}
 use Rattle.text_scan.proofs.Lists.{Shrinks, with_front, breaks_off}
 use Rattle.svd_model.specs.declared.device.Item.{Item}
 use Rattle.svd_model.specs.declared.device.Peripheral.{Peripheral}

@@ -1,8 +1,8 @@
 -- Names that differ: one more name, and a name that stood before.
-use Rattle.std.proofs.Common.{◌≡◌, ◌≢◌, ℕ, zero, suc, ◌+◌, ◌<◌, Bool, true, false, not, ◌&&◌, ◌||◌, List, [], ◌∷◌, ◌++◌, map, length, get_or, refl, sym, ap, ◌∙◌, ◌⊎◌, inl, inr, arith}
+use Rattle.std.proofs.Common.{◌≡◌, ℕ, zero, suc, ◌<◌, Bool, true, false, not, ◌||◌, List, [], ◌∷◌, ◌++◌, length, get_or, refl, sym, ◌∙◌, inl, inr, arith}
 use Rattle.std.specs.List.{list_any}
 use Rattle.std.specs.Str.{bytes_eq}
-use Rattle.std.proofs.lemmas.Bool.{cases_Bool, and_parts, and_from, and_right, or_parts, or_from, or_cases, or_left, or_right, not-true, not_from_true, not_from_false, true≢false}
+use Rattle.std.proofs.lemmas.Bool.{cases_Bool, and_parts, and_from, and_right, or_parts, or_from, or_cases, or_left, or_right, not-true, not_from_false, true≢false}
 use Rattle.std.proofs.lemmas.List.Folds.{list_any-append, list_any_at, Any-from_list_any}
 use Rattle.std.proofs.lemmas.Slice.Eq.{bytes_eq-Decides}
 use Rattle.svd_plain.specs.Forms.{AreDistinct}
@@ -24,7 +24,7 @@ differ_more (x ∷ front) name apart fresh =
     let parts = and_parts (not (list_any (bytes_eq x) front)) (differ front) apart in
     let others = or_parts (bytes_eq name x) (list_any (bytes_eq name) front) fresh in
     let behind : list_any (bytes_eq x) (front ++ name ∷ []) ≡ false =
-        list_any-append (bytes_eq x) front (name ∷ []) ∙ or_from (list_any (bytes_eq x) front) (bytes_eq x name || false) (not-true (list_any (bytes_eq x) front) parts.0) (or_from (bytes_eq x name) false (bytes_eq_turned name x false others.0) refl) in
+    list_any-append (bytes_eq x) front (name ∷ []) ∙ or_from (list_any (bytes_eq x) front) (bytes_eq x name || false) (not-true (list_any (bytes_eq x) front) parts.0) (or_from (bytes_eq x name) false (bytes_eq_turned name x false others.0) refl) in
     and_from (not (list_any (bytes_eq x) (front ++ name ∷ []))) (differ (front ++ name ∷ [])) (not_from_false (list_any (bytes_eq x) (front ++ name ∷ [])) behind) (differ_more front name parts.1 others.1)
 
 -- a name that stood before
@@ -35,7 +35,7 @@ differ_again (x ∷ front) name more found =
     elim (or_cases (bytes_eq name x) (list_any (bytes_eq name) front) found) [
       | inl same ↦
           let behind : list_any (bytes_eq x) (front ++ name ∷ more) ≡ true =
-              list_any-append (bytes_eq x) front (name ∷ more) ∙ or_right (list_any (bytes_eq x) front) (bytes_eq x name || list_any (bytes_eq x) more) (or_left (bytes_eq x name) (list_any (bytes_eq x) more) (bytes_eq_turned name x true same)) in
+          list_any-append (bytes_eq x) front (name ∷ more) ∙ or_right (list_any (bytes_eq x) front) (bytes_eq x name || list_any (bytes_eq x) more) (or_left (bytes_eq x name) (list_any (bytes_eq x) more) (bytes_eq_turned name x true same)) in
           rw behind refl
       | inr before ↦ and_right (not (list_any (bytes_eq x) (front ++ name ∷ more))) (differ (front ++ name ∷ more)) (differ_again front name more before)
     ]

@@ -1,12 +1,12 @@
 -- The narrow forms are names and texts.
-use Rattle.std.proofs.Common.{◌≡◌, ◌≢◌, ℕ, zero, suc, ◌-◌, ◌<◌, Bool, true, false, not, ◌==◌, ◌&&◌, List, [], ◌∷◌, length, get_or, refl, inl, arith}
+use Rattle.std.proofs.Common.{◌≡◌, ◌≢◌, ℕ, zero, suc, ◌-◌, ◌<◌, Bool, true, not, ◌==◌, ◌&&◌, List, [], ◌∷◌, length, get_or, refl, inl, arith}
 use Rattle.std.specs.List.{list_all}
 use Rattle.std.specs.Str.{IsUtf8, IsAscii}
 use Rattle.std.proofs.lemmas.Str.{IsUtf8-from_ascii}
 use Rattle.std.proofs.lemmas.Bool.{and_parts, and_from}
 use Rattle.std.proofs.lemmas.Bool.Decides.{nat_tests}
 use Rattle.pac_base.specs.Names.{IsName, is_word_byte}
-use Rattle.text_scan.specs.declared.class.Class.TheVariants.{Upper, NameByte, Content}
+use Rattle.text_scan.specs.declared.class.Class.TheVariants.{Upper, NameByte}
 use Rattle.text_scan.specs.Classes.{has, is_between}
 use Rattle.svd_plain.specs.Forms.{is_plain_name, is_plain_text, is_text_byte}
 

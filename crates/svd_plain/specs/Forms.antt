@@ -1,5 +1,5 @@
 -- What may stand in the elements of a plain description: this project's own narrow forms.
-use Rattle.std.specs.Prelude.{◌≡◌, ◌⊎◌, ◌≢◌, ℕ, ◌+◌, ◌-◌, ◌%◌, ◌^◌, Bool, false, not, ◌&&◌, List, [], ◌∷◌, ◌++◌, length, Option, Some, None, AllPairs, codes, nat_le, ◌==◌, slice_index}
+use Rattle.std.specs.Prelude.{◌≡◌, ◌⊎◌, ◌≢◌, ℕ, ◌+◌, ◌-◌, ◌%◌, ◌^◌, Bool, false, not, ◌&&◌, List, [], ◌∷◌, ◌++◌, length, Some, AllPairs, codes, nat_le, ◌==◌, slice_index}
 use Rattle.std.specs.List.{list_all}
 use Rattle.text_scan.specs.declared.class.Class.TheVariants.{Upper, NameByte}
 use Rattle.text_scan.specs.declared.radix.Radix.TheVariants.{Decimal, Hexadecimal}

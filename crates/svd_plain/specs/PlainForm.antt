@@ -1,6 +1,6 @@
 -- A plain description: the whole text of a device, element by element, with white space between tags alone. Each relation says that the text
 -- is the element, in the order of its parts, and then the rest.
-use Rattle.std.specs.Prelude.{◌≡◌, ℕ, Bool, true, List, map}
+use Rattle.std.specs.Prelude.{◌≡◌, ℕ, true, List, map}
 use Rattle.text_scan.specs.declared.class.Class.TheVariants.{Blank}
 use Rattle.text_scan.specs.Classes.{has}
 use Rattle.text_scan.specs.Fronts.{Passes}

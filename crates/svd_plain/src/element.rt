@@ -4,7 +4,7 @@ ghost use Rattle.svd_plain.specs.Elements.{start_of, end_of};
 ghost use Rattle.svd_plain.specs.Reading.{Gives, begins, content_at};
 
 use crate::fault::PlainFault;
-use text_scan::{after_blanks, split_front, stripped, Class};
+use text_scan::{Class, after_blanks, split_front, stripped};
 
 /// An element of a plain description.
 #[derive(Clone, Copy)]

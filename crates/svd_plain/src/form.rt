@@ -3,11 +3,11 @@ ghost use Rattle.std.specs.List.{list_all};
 ghost use Rattle.svd_plain.specs.Forms.{is_plain_name, is_plain_text, is_text_byte, fits_at};
 ghost use Rattle.svd_plain.specs.Reading.{Gives, name_at, text_at, number_in, number_at};
 
-use crate::element::{content, Element};
+use crate::element::{Element, content};
 use crate::fault::PlainFault;
 use pac_base::{Name, NameFault, Text, TextFault};
 use std::alloc::Global;
-use text_scan::{is_all, number, stripped, Class, Radix};
+use text_scan::{Class, Radix, is_all, number, stripped};
 
 /// The end of the addresses that a register may take.
 const ADDRESS_END: u128 = 1 << 64;

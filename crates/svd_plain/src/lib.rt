@@ -13,3 +13,6 @@ mod siblings;
 
 pub use fault::PlainFault;
 pub use reader::{one_reading, read_plain};
+
+#[cfg(test)]
+mod tests;

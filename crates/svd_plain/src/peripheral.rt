@@ -3,7 +3,7 @@ ghost use Rattle.svd_model.specs.Plain.{peripheral_of};
 ghost use Rattle.svd_plain.specs.Siblings.{named_peripheral};
 ghost use Rattle.svd_plain.specs.Reading.{Gives, peripheral_at, peripheral_list_at, peripherals_at};
 
-use crate::element::{after_end, after_start, begins, Element};
+use crate::element::{Element, after_end, after_start, begins};
 use crate::fault::PlainFault;
 use crate::form::{name, number_of};
 use crate::register::registers;

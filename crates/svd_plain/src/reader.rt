@@ -4,7 +4,7 @@ ghost use Rattle.svd_model.specs.Plain.{PlainDevice, plain_of};
 ghost use Rattle.svd_plain.specs.PlainForm.{IsPlain};
 ghost use Rattle.svd_plain.specs.Reading.{Gives, device_at};
 
-use crate::element::{after_end, after_start, Element};
+use crate::element::{Element, after_end, after_start};
 use crate::fault::PlainFault;
 use crate::form::device_name;
 use crate::peripheral::peripherals;
@@ -46,5 +46,4 @@ pub fn read_plain(alloc: Global, bytes: &[u8]) -> Result<Device, PlainFault>
 /// No text is the plain description of two devices.
 pub fn one_reading()
     ensures { (one other : PlainDevice) (text : List ℕ) → IsPlain one text → IsPlain other text → one ≡ other }
-{
-}
+{}

@@ -2,7 +2,7 @@ ghost use Rattle.std.specs.Prelude.{◌≡◌, map};
 ghost use Rattle.svd_model.specs.Plain.{register_of};
 ghost use Rattle.svd_plain.specs.Reading.{Gives, register_at, register_list_at, registers_at};
 
-use crate::element::{after_end, after_start, begins, Element};
+use crate::element::{Element, after_end, after_start, begins};
 use crate::fault::PlainFault;
 use crate::form::{fits_at, name, number_of};
 use crate::siblings::registers_differ;
@@ -32,11 +32,7 @@ fn register(alloc: Global, base: u64, text: &[u8]) -> Result<(Item, &[u8]), Plai
 }
 
 /// All registers that begin the text, and what follows them.
-fn register_list(
-    alloc: Global,
-    base: u64,
-    text: &[u8],
-) -> Result<(Vec<Item>, &[u8]), PlainFault>
+fn register_list(alloc: Global, base: u64, text: &[u8]) -> Result<(Vec<Item>, &[u8]), PlainFault>
     ensures { Gives (λ x. (map register_of x.0.items, x.1.now)) result (register_list_at base text.now) }
 {
     let mut items = Vec::new(alloc);
@@ -51,11 +47,7 @@ fn register_list(
 
 /// The registers of a peripheral at the base, and what follows their element.
 #[tactic(auto, unfolding(crate::specs::Reading::registers_at))]
-pub fn registers(
-    alloc: Global,
-    base: u64,
-    text: &[u8],
-) -> Result<(Vec<Item>, &[u8]), PlainFault>
+pub fn registers(alloc: Global, base: u64, text: &[u8]) -> Result<(Vec<Item>, &[u8]), PlainFault>
     ensures { Gives (λ x. (map register_of x.0.items, x.1.now)) result (registers_at base text.now) }
 {
     let inside = after_start(text, Element::Registers)?;

@@ -1,9 +1,9 @@
 -- A block behind white space is what the reader strips, and the other way round.
-use Rattle.std.proofs.Common.{◌≡◌, ℕ, ◌+◌, ◌≤◌, Bool, true, false, List, [], ◌∷◌, ◌++◌, length, Option, Some, None, refl, sym, ap, ◌∙◌, arith}
+use Rattle.std.proofs.Common.{◌≡◌, ℕ, ◌+◌, ◌≤◌, List, ◌++◌, length, Some, sym, ap, ◌∙◌, arith}
 use Rattle.std.proofs.lemmas.List.{length-append}
 use Rattle.text_scan.specs.declared.class.Class.TheVariants.{Blank}
 use Rattle.text_scan.specs.Classes.{has}
-use Rattle.text_scan.specs.Fronts.{Passes, StopsAt, front_of, rest_of, stripped_of}
+use Rattle.text_scan.specs.Fronts.{StopsAt, front_of, rest_of, stripped_of}
 use Rattle.text_scan.specs.Follows.{Follows, after_block}
 use Rattle.text_scan.proofs.Fronts.{front-rest, front_passes, rest-append}
 use Rattle.text_scan.proofs.FixedText.{stripped-append, stripped-Some}

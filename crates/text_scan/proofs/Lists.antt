@@ -1,5 +1,5 @@
 -- A list of items is read back, and the loop that reads it.
-use Rattle.std.proofs.Common.{◌≡◌, ℕ, zero, suc, ◌+◌, ◌<◌, ◌≤◌, Bool, true, false, cond, List, [], ◌∷◌, ◌++◌, length, Option, Some, None, refl, sym, ap, subst, ◌∙◌, ◌⊎◌, inl, inr, append_assoc, arith}
+use Rattle.std.proofs.Common.{◌≡◌, ℕ, zero, suc, ◌<◌, ◌≤◌, Bool, true, false, cond, List, [], ◌∷◌, ◌++◌, length, Option, Some, None, refl, sym, ap, subst, ◌∙◌, inl, inr, append_assoc, arith}
 use Rattle.std.proofs.lemmas.Bool.{cases_Bool}
 use Rattle.std.proofs.lemmas.List.{append-nil}
 use Rattle.text_scan.specs.Steps.{◌>>=◌}
@@ -24,26 +24,26 @@ module _ {X : Type 0} (begins : List ℕ → Bool) (item_at : List ℕ → Optio
   enough shrinks zero (suc m) text p q =
       elim (cases_Bool (begins text)) [
         | inl starts ↦ elim (cases_option (item_at text)) [
-            | inl none ↦ rw (starts, none) refl
-            | inr some ↦ absurd (omega (arith, shrinks text some.0 some.1))
-          ]
+          | inl none ↦ rw (starts, none) refl
+          | inr some ↦ absurd (omega (arith, shrinks text some.0 some.1))
+        ]
         | inr other ↦ rw other refl
       ]
   enough shrinks (suc n) zero text p q =
       elim (cases_Bool (begins text)) [
         | inl starts ↦ elim (cases_option (item_at text)) [
-            | inl none ↦ rw (starts, none) refl
-            | inr some ↦ absurd (omega (arith, shrinks text some.0 some.1))
-          ]
+          | inl none ↦ rw (starts, none) refl
+          | inr some ↦ absurd (omega (arith, shrinks text some.0 some.1))
+        ]
         | inr other ↦ rw other refl
       ]
   enough shrinks (suc n) (suc m) text p q =
       elim (cases_Bool (begins text)) [
         | inl starts ↦ elim (cases_option (item_at text)) [
-            | inl none ↦ rw (starts, none) refl
-            | inr some ↦ rw (starts, some.1) (ap (λ (read : Option (List X × List ℕ)). read >>= λ items. Some (some.0.0 ∷ items.0, items.1))
-                (enough shrinks n m some.0.1 (omega (arith, shrinks text some.0 some.1)) (omega (arith, shrinks text some.0 some.1))))
-          ]
+          | inl none ↦ rw (starts, none) refl
+          | inr some ↦ rw (starts, some.1) (ap (λ (read : Option (List X × List ℕ)). read >>= λ items. Some (some.0.0 ∷ items.0, items.1))
+              (enough shrinks n m some.0.1 (omega (arith, shrinks text some.0 some.1)) (omega (arith, shrinks text some.0 some.1))))
+        ]
         | inr other ↦ rw other refl
       ]
 
@@ -53,10 +53,10 @@ module _ {X : Type 0} (begins : List ℕ → Bool) (item_at : List ℕ → Optio
   up_to-first shrinks text =
       elim (cases_Bool (begins text)) [
         | inl starts ↦ elim (cases_option (item_at text)) [
-            | inl none ↦ rw (starts, none) refl
-            | inr some ↦ rw (starts, some.1) (ap (λ (read : Option (List X × List ℕ)). read >>= λ items. Some (some.0.0 ∷ items.0, items.1))
-                (enough shrinks (length text) (length some.0.1) some.0.1 (omega (arith, shrinks text some.0 some.1)) (omega arith)))
-          ]
+          | inl none ↦ rw (starts, none) refl
+          | inr some ↦ rw (starts, some.1) (ap (λ (read : Option (List X × List ℕ)). read >>= λ items. Some (some.0.0 ∷ items.0, items.1))
+              (enough shrinks (length text) (length some.0.1) some.0.1 (omega (arith, shrinks text some.0 some.1)) (omega arith)))
+        ]
         | inr other ↦ rw other refl
       ]
 

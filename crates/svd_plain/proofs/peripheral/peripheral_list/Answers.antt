@@ -13,7 +13,7 @@ pub returns-in_err-named : goal.returns-in_err-named
 returns-in_err-named c =
     let fault = err_from_is_err_and c.from_residual.result c.from_residual.ensures.1 in
     rw (fault.1, fault.2) (ends (begins Peripheral) peripheral_at peripheral_shrinks c.in_err-named.field-0.0 (map named_peripheral c.peripherals.peripherals.items) c.peripherals.rest.now (peripheral_list_at c.args.text.now)
-      (sym c.peripherals-test.ensures) c.in_err-named.ensures c.peripherals.invariant)
+    (sym c.peripherals-test.ensures) c.in_err-named.ensures c.peripherals.invariant)
 
 pub peripherals-smaller : goal.peripherals-smaller
 peripherals-smaller c = peripheral_shrinks c.peripherals.rest.now (named_peripheral c.in_ok-named.named, c.in_ok-named.after.now) c.in_ok-named.ensures
@@ -23,7 +23,7 @@ peripherals-preserved c =
     let named = c.in_ok-named.named in
     let more : map named_peripheral c.push.new.self.items ≡ map named_peripheral c.peripherals.peripherals.items ++ named_peripheral named ∷ [] = rw c.in_ok-push.ensures.items (map_push _ c.peripherals.peripherals.items named) in
     rw more (goes_on (begins Peripheral) peripheral_at peripheral_shrinks (map named_peripheral c.peripherals.peripherals.items) c.peripherals.rest.now (named_peripheral named) c.in_ok-named.after.now (peripheral_list_at c.args.text.now)
-      (sym c.peripherals-test.ensures) c.in_ok-named.ensures c.peripherals.invariant)
+    (sym c.peripherals-test.ensures) c.in_ok-named.ensures c.peripherals.invariant)
 
 pub returns : goal.returns
 returns c =
