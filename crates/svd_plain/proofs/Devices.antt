@@ -161,3 +161,7 @@ device_again text device d =
       end_again Device d.filled d.after d.closes,
       ends_again d.after d.ends,
     ) refl
+
+-- no text is the plain description of two devices
+pub one_device : (one other : PlainDevice) (text : List ℕ) → IsPlain one text → IsPlain other text → one ≡ other
+one_device one other text is_one is_other = some_is one other (sym (device_again text one is_one) ∙ device_again text other is_other)

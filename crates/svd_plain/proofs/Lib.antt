@@ -7,3 +7,4 @@ pub mod Registers
 pub mod Devices
 pub mod Answering
 pub mod Loops
+pub mod Addresses

@@ -1,6 +1,6 @@
 ghost use Rattle.std.specs.Prelude.{◌≡◌, IfOk, IsErrOf, MatchResult};
 ghost use Rattle.std.specs.Prelude.{List, ℕ};
-ghost use Rattle.svd_model.specs.Plain.{PlainDevice, plain_of};
+ghost use Rattle.svd_model.specs.Plain.{AddressesFit, PlainDevice, plain_of};
 ghost use Rattle.svd_plain.specs.PlainForm.{IsPlain};
 ghost use Rattle.svd_plain.specs.Reading.{Gives, device_at};
 
@@ -33,6 +33,8 @@ fn device(alloc: Global, bytes: &[u8]) -> Result<Device, PlainFault>
 pub fn read_plain(alloc: Global, bytes: &[u8]) -> Result<Device, PlainFault>
     // What is read is what the bytes describe.
     ensures spelled { IfOk result (λ device. IsPlain (plain_of device) bytes.now) }
+    // Its registers end within the addresses below 2^64.
+    ensures fits { IfOk result (λ device. AddressesFit (plain_of device)) }
     // What is refused describes no device.
     ensures refused { IsErrOf result PlainFault.NotPlain
         → (plain : PlainDevice) → IsPlain plain bytes.now → ⊥ }
