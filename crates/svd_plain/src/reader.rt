@@ -1,5 +1,4 @@
-ghost use Rattle.std.specs.Prelude.{◌≡◌, IfOk, IsErrOf, MatchResult};
-ghost use Rattle.std.specs.Prelude.{List, ℕ};
+ghost use Rattle.std.specs.Prelude.{◌≡◌, ℕ, List, IfOk, IsErrOf, MatchResult};
 ghost use Rattle.svd_model.specs.Plain.{AddressesFit, PlainDevice, plain_of};
 ghost use Rattle.svd_plain.specs.PlainForm.{IsPlain};
 ghost use Rattle.svd_plain.specs.Reading.{Gives, device_at};

@@ -4,3 +4,4 @@ pub mod Numbers
 pub mod Steps
 pub mod Follows
 pub mod Lists
+mod WorkedNumbers

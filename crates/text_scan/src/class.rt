@@ -1,4 +1,5 @@
 ghost use Rattle.std.specs.Prelude.{◌≡◌};
+ghost use Rattle.text_scan.specs.Classes.{has, is_between, is_blank, is_hex_digit, is_name_byte};
 
 /// A class of bytes.
 #[derive(Clone, Copy, Debug, PartialEq, Eq)]
@@ -18,8 +19,6 @@ pub enum Class {
 }
 
 impl Class {
-    ghost use Rattle.text_scan.specs.Classes.{has, is_between, is_blank, is_name_byte, is_hex_digit};
-
     /// Whether the byte is of this class.
     #[tactic(auto, unfolding(crate::specs::Classes::has))]
     pub fn has(self, byte: u8) -> bool
@@ -35,8 +34,6 @@ impl Class {
         }
     }
 }
-
-ghost use Rattle.text_scan.specs.Classes.{is_between, is_blank, is_name_byte, is_hex_digit};
 
 fn is_between(low: u8, high: u8, byte: u8) -> bool
     ensures { result ≡ is_between low high byte }

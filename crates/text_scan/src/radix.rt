@@ -1,6 +1,6 @@
 ghost use Rattle.std.specs.Prelude.{◌≡◌};
-ghost use Rattle.text_scan.specs.Numbers.{number_of};
-ghost use Rattle.text_scan.specs.Reading.{reads_on};
+ghost use Rattle.text_scan.specs.Numbers.{base_of, digits_of, digit_value, number_of};
+ghost use Rattle.text_scan.specs.Reading.{extended_by, reads_on};
 
 use crate::class::Class;
 
@@ -12,11 +12,6 @@ pub enum Radix {
 }
 
 impl Radix {
-    ghost use Rattle.std.specs.Prelude.{◌≡◌, ◌<◌};
-    ghost use Rattle.text_scan.specs.Classes.{has};
-    ghost use Rattle.text_scan.specs.Numbers.{base_of, digits_of};
-    ghost use Rattle.text_scan.specs.Reading.{extended_by};
-
     fn base(self) -> u64
         ensures { result ≡ base_of self }
     {
@@ -48,9 +43,6 @@ impl Radix {
             .checked_add(digit_value(digit))
     }
 }
-
-ghost use Rattle.text_scan.specs.Classes.{is_hex_digit};
-ghost use Rattle.text_scan.specs.Numbers.{digit_value};
 
 /// What a digit is worth.
 #[tactic(auto, unfolding(crate::specs::Numbers::digit_value))]
