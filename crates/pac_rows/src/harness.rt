@@ -6,6 +6,7 @@ use std::test::Fail;
 
 /// What a call of `pac` has to answer: its status, its output, and its fault line without the
 /// `pac: ` in front and the line feed behind.
+#[derive(Clone, Copy)]
 pub struct Wanted<'a> {
     pub status: u8,
     pub output: &'a str,

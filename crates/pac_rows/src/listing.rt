@@ -1,5 +1,6 @@
 use crate::harness::{Wanted, call, file};
 use pac_io::{MemFiles, MemSink};
+use std::process::Abort;
 use std::test::Fail;
 
 const ONE_REGISTER: &str =
@@ -60,24 +61,28 @@ fn empty_file(rt: HostRuntime) -> Result<(), Fail> {
     )
 }
 
-#[test]
-fn words_files_and_sinks(rt: HostRuntime) -> Result<(), Fail> {
-    let usage = Wanted {
+fn refuses(rt: &(impl Abort + AllocGlobal), words: &[&str]) -> Result<(), Fail> {
+    let wanted = Wanted {
         status: 2,
         output: "",
         fault: USAGE,
     };
-    for words in [
-        ["list"].as_slice(),
-        [].as_slice(),
-        ["lists", "x.svd"].as_slice(),
-        ["list", "--strict"].as_slice(),
-        ["list", "x.svd", "y.svd"].as_slice(),
-    ] {
-        let files = MemFiles::new(rt.alloc());
-        call(&rt, words, files, MemSink::new(rt.alloc()), &usage)?;
-    }
-    let missing = Wanted {
+    let files = MemFiles::new(rt.alloc());
+    call(rt, words, files, MemSink::new(rt.alloc()), &wanted)
+}
+
+#[test]
+fn words_of_no_command(rt: HostRuntime) -> Result<(), Fail> {
+    refuses(&rt, &["list"])?;
+    refuses(&rt, &[])?;
+    refuses(&rt, &["lists", "x.svd"])?;
+    refuses(&rt, &["list", "--strict"])?;
+    refuses(&rt, &["list", "x.svd", "y.svd"])
+}
+
+#[test]
+fn files_that_are_not_there(rt: HostRuntime) -> Result<(), Fail> {
+    let wanted = Wanted {
         status: 3,
         output: "",
         fault: "cannot read x.svd",
@@ -88,9 +93,13 @@ fn words_files_and_sinks(rt: HostRuntime) -> Result<(), Fail> {
         &["list", "x.svd"],
         files,
         MemSink::new(rt.alloc()),
-        &missing,
-    )?;
-    let broken = Wanted {
+        &wanted,
+    )
+}
+
+#[test]
+fn sinks_whose_first_write_fails(rt: HostRuntime) -> Result<(), Fail> {
+    let wanted = Wanted {
         status: 4,
         output: "",
         fault: "cannot write",
@@ -98,7 +107,7 @@ fn words_files_and_sinks(rt: HostRuntime) -> Result<(), Fail> {
     let files = file(&rt, "x.svd", ONE_REGISTER.as_bytes())?;
     let mut out = MemSink::new(rt.alloc());
     out.fail(1)?;
-    call(&rt, &["list", "x.svd"], files, out, &broken)
+    call(&rt, &["list", "x.svd"], files, out, &wanted)
 }
 
 #[test]
