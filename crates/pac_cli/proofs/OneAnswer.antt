@@ -1,8 +1,8 @@
 -- The words and the files decide one answer at most, so the one that comes is that one.
 use Rattle.std.proofs.Common.{ℕ, ◌≡◌, ◌⊎◌, ◌≤◌, ◌<◌, List, [], Option, Some, None, IfSome, length, refl, sym, ap, ◌∙◌, subst, inl, inr, arith}
 use Rattle.pac_io.specs.Rose.{Rose}
-use Rattle.svd_model.specs.Plain.{PlainDevice}
-use Rattle.svd_plain.specs.PlainForm.{IsPlain}
+use Rattle.plain_model.specs.Plain.{PlainDevice}
+use Rattle.plain_reader.specs.PlainForm.{IsPlain}
 use Rattle.plain_list.specs.Listing.{listing}
 use Rattle.pac_cli.specs.Answers.{Answer, refused, prints, FileMap, IsAnswer, AnswersCommand, AnswersFile, AnswersListing, ListsAs, AreNotPlain, PassesLongest, longest}
 use Rattle.pac_cli.specs.Causes.{World, Finishes, RunsOutOfMemory, RefusesWords, FailsToRead, FailsToWrite, RefusesInput, Stands, StandsAt, Comes, IsComplete}

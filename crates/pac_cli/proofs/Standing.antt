@@ -2,9 +2,9 @@
 use Rattle.std.proofs.Common.{ℕ, ◌≡◌, ◌⊎◌, ◌<◌, List, [], ◌∷◌, ◌++◌, Option, Some, None, IfSome, IsSomeAnd, IsSome, Result, Ok, Err, length, Bool, true, false, refl, sym, ap, ◌∙◌, subst, inl, inr}
 use Rattle.std.proofs.lemmas.List.{append-nil}
 use Rattle.std.specs.Result.{result_err}
-use Rattle.svd_model.specs.Plain.{plain_of}
-use Rattle.svd_model.specs.declared.device.Device.{Device}
-use Rattle.svd_plain.specs.PlainForm.{IsPlain}
+use Rattle.plain_model.specs.Plain.{plain_of}
+use Rattle.plain_model.specs.declared.device.Device.{Device}
+use Rattle.plain_reader.specs.PlainForm.{IsPlain}
 use Rattle.plain_list.specs.Listing.{listing}
 use Rattle.pac_io.specs.Asking.{and_asked}
 use Rattle.pac_cli.specs.Answers.{Answer, refused, prints, FileMap, IsAnswer, AnswersCommand, AnswersFile, AnswersListing, ListsAs, AreNotPlain, PassesLongest, longest}

@@ -1,8 +1,8 @@
 -- The whole answer: what the words and the bytes of the told files decide, the first fault in the
 -- order of reading or the output of the command. This project's own rule.
 use Rattle.std.specs.Prelude.{ℕ, ◌≡◌, ◌≤◌, ◌<◌, List, Option, Some, None, length}
-use Rattle.svd_model.specs.Plain.{PlainDevice}
-use Rattle.svd_plain.specs.PlainForm.{IsPlain}
+use Rattle.plain_model.specs.Plain.{PlainDevice}
+use Rattle.plain_reader.specs.PlainForm.{IsPlain}
 use Rattle.plain_list.specs.Listing.{listing}
 use Rattle.pac_cli.specs.Commands.{command_of}
 use Rattle.pac_cli.specs.declared.command.Command.{Command}

@@ -4,9 +4,9 @@ use Rattle.std.specs.Io.KnownBytes.{Appends}
 use Rattle.pac_io.specs.Asking.{and_asked}
 use Rattle.pac_io.specs.Rose.{Rose}
 use Rattle.pac_io.specs.Writing.{AppendsPrefix}
-use Rattle.svd_model.specs.Plain.{AddressesFit, plain_of}
-use Rattle.svd_model.specs.declared.device.Device.{Device}
-use Rattle.svd_plain.specs.PlainForm.{IsPlain}
+use Rattle.plain_model.specs.Plain.{AddressesFit, plain_of}
+use Rattle.plain_model.specs.declared.device.Device.{Device}
+use Rattle.plain_reader.specs.PlainForm.{IsPlain}
 use Rattle.pac_cli.specs.Answers.{FileMap, IsNotPlain, longest}
 use Rattle.pac_cli.specs.declared.fault.PacFault.{PacFault}
 use Rattle.pac_cli.specs.declared.fault.PacFault.TheVariants.{Memory, Words, Read, Write, Svd, Limit}

@@ -3,16 +3,16 @@ ghost use Rattle.pac_cli.specs.Stages.{ReadsInput, Describes, WritesText, shelf,
 ghost use Rattle.pac_cli.specs.Causes.{StandsFor, world};
 ghost use Rattle.pac_cli.specs.declared.command.Command.TheVariants.{Listing};
 ghost use Rattle.plain_list.specs.Listing.{listing};
-ghost use Rattle.svd_model.specs.Plain.{AddressesFit, plain_of};
+ghost use Rattle.plain_model.specs.Plain.{AddressesFit, plain_of};
 ghost use Rattle.std.specs.Prelude.{◌≡◌};
 
 use crate::fault::{LimitFault, PacFault, SvdFault};
 use pac_base::Text;
 use pac_io::{Bytes, Files, FilesFault, Sink, SinkFault};
 use plain_list::list_plain;
+use plain_model::Device;
+use plain_reader::{PlainFault, read_plain};
 use std::alloc::Global;
-use svd_model::Device;
-use svd_plain::{PlainFault, read_plain};
 
 /// How many bytes a description may have: 64 MiB.
 const LONGEST: u64 = 67_108_864;

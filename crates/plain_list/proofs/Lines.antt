@@ -8,8 +8,8 @@ use Rattle.pac_io.specs.WrittenUpTo.{WrittenUpTo}
 use Rattle.pac_io.specs.Writing.{AppendsPrefix}
 use Rattle.pac_io.proofs.WrittenUpTo.{page_went_on, page_broke_off}
 use Rattle.plain_list.specs.Listing.{line_of, lines_of, lines_of_all}
-use Rattle.svd_model.specs.Plain.{FitsAt, PlainRegister, PlainPeripheral, register_of, peripheral_of}
-use Rattle.svd_model.specs.declared.device.Item.{Item}
+use Rattle.plain_model.specs.Plain.{FitsAt, PlainRegister, PlainPeripheral, register_of, peripheral_of}
+use Rattle.plain_model.specs.declared.device.Item.{Item}
 
 -- the lines of the items from a place on
 abbrev pub lines_from : List ℕ → ℕ → List Item → List ℕ

@@ -4,7 +4,7 @@ use Rattle.std.specs.Prelude.{ℕ, ◌+◌, List, [], ◌∷◌, ◌++◌, codes
 use Rattle.std.specs.List.{flat_map}
 use Rattle.std.specs.Str.{str_to_ascii_lowercase}
 use Rattle.pac_io.specs.Numerals.{hexadecimal}
-use Rattle.svd_model.specs.Plain.{PlainRegister, PlainPeripheral, PlainDevice}
+use Rattle.plain_model.specs.Plain.{PlainRegister, PlainPeripheral, PlainDevice}
 
 -- an address, with at least eight digits
 abbrev pub address_text : ℕ → List ℕ

@@ -2,12 +2,12 @@ ghost use Rattle.std.specs.Prelude.{◌≡◌, ◌+◌, ◌<◌, ◌^◌, ◌++�
 ghost use Rattle.std.specs.Str.{str_to_ascii_lowercase};
 ghost use Rattle.pac_io.specs.Writing.{Writes, WritesUpTo, SinkCause};
 ghost use Rattle.plain_list.specs.Listing.{address_text, line_of, lines_of, listing};
-ghost use Rattle.svd_model.specs.Plain.{AddressesFit, FitsAt, plain_of, register_of};
+ghost use Rattle.plain_model.specs.Plain.{AddressesFit, FitsAt, plain_of, register_of};
 
 use pac_base::NoMemory;
 use pac_io::{Page, Sink, SinkFault};
+use plain_model::{Child, Device, Item, Peripheral};
 use std::alloc::Global;
-use svd_model::{Child, Device, Item, Peripheral};
 
 /// Writes the line of each register, in the order of their declaration. Its condition is that each
 /// register ends within the addresses below 2^64.

@@ -1,4 +1,4 @@
-use Rattle.svd_plain.proofs.Devices.{one_device}
+use Rattle.plain_reader.proofs.Devices.{one_device}
 use Rattle.pac_cli.proofs.OneAnswer.{one_answer_lem}
 use Rattle.pac_cli.proofs.laws.one_answer.Goals as goal
 

@@ -1,7 +1,7 @@
 use Rattle.std.proofs.Common.{subst, sym, Option}
 use Rattle.pac_cli.specs.Causes.{world, Stands}
 use Rattle.pac_cli.specs.declared.fault.PacFault.{PacFault}
-use Rattle.svd_plain.proofs.Devices.{one_device}
+use Rattle.plain_reader.proofs.Devices.{one_device}
 use Rattle.pac_cli.proofs.OneAnswer.{complete}
 use Rattle.pac_cli.proofs.run.run_pac.Goals as goal
 

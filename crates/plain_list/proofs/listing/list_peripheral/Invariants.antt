@@ -1,7 +1,7 @@
 use Rattle.std.proofs.Common.{◌++◌, map, drop}
 use Rattle.plain_list.specs.Listing.{lines_of}
 use Rattle.plain_list.proofs.Lines.{ListedUpTo, lines_from}
-use Rattle.svd_model.specs.Plain.{register_of}
+use Rattle.plain_model.specs.Plain.{register_of}
 use Rattle.plain_list.proofs.listing.list_peripheral.Given as goal
 
 abbrev pub invariant-loop-item : goal.invariant-loop-item

@@ -6,9 +6,9 @@ use Rattle.pac_io.specs.Writing.{AppendsPrefix}
 use Rattle.pac_io.proofs.WrittenUpTo.{page_went_on, page_broke_off, run_of_writes}
 use Rattle.plain_list.specs.Listing.{lines_of, lines_of_all, listing}
 use Rattle.plain_list.proofs.Lines.{ListedUpTo, AllFit}
-use Rattle.svd_model.specs.Plain.{register_of, peripheral_of, plain_of}
-use Rattle.svd_model.specs.declared.sibling.Sibling.{Sibling}
-use Rattle.svd_model.specs.declared.device.Peripheral.{Peripheral}
+use Rattle.plain_model.specs.Plain.{register_of, peripheral_of, plain_of}
+use Rattle.plain_model.specs.declared.sibling.Sibling.{Sibling}
+use Rattle.plain_model.specs.declared.device.Peripheral.{Peripheral}
 use Rattle.plain_list.proofs.listing.list_plain.Goals as goal
 
 pub list_peripheral-requires : goal.list_peripheral-requires

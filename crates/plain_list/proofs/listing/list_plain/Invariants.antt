@@ -1,7 +1,7 @@
 use Rattle.std.proofs.Common.{◌++◌, map, drop}
 use Rattle.plain_list.specs.Listing.{lines_of_all, listing}
 use Rattle.plain_list.proofs.Lines.{ListedUpTo, AllFit}
-use Rattle.svd_model.specs.Plain.{peripheral_of, plain_of}
+use Rattle.plain_model.specs.Plain.{peripheral_of, plain_of}
 use Rattle.plain_list.proofs.listing.list_plain.Given as goal
 
 abbrev pub invariant-loop-key : goal.invariant-loop-key
