@@ -1,1 +1,4 @@
+pub mod Numbers
+pub mod Numerals
+pub mod Reserved
 pub mod SchemaWords

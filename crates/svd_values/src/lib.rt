@@ -4,10 +4,15 @@
 #![tactic(auto)]
 
 mod index;
+mod numeral;
 mod place;
+mod reserved;
 mod schema_word;
 mod table;
 
 pub use index::{DimIndex, IndexFault, Words};
+pub use numeral::{number, value_bits};
 pub use place::Place;
-pub use schema_word::{Access, ReadAction, Usage, WriteKind, access_word};
+pub use schema_word::{
+    Access, ReadAction, Usage, WriteKind, access_word, read_action, usage_word, write_kind,
+};

@@ -1,8 +1,11 @@
 ghost use Rattle.std.specs.Prelude.{◌≡◌, ◌↔◌};
 ghost use Rattle.svd_values.specs.SchemaWords.{access_text, write_kind_text, read_action_text, usage_text};
 ghost use Rattle.svd_values.specs.declared.schema_word.Access.{Access as AccessOf};
+ghost use Rattle.svd_values.specs.declared.schema_word.WriteKind.{WriteKind as WriteKindOf};
+ghost use Rattle.svd_values.specs.declared.schema_word.ReadAction.{ReadAction as ReadActionOf};
+ghost use Rattle.svd_values.specs.declared.schema_word.Usage.{Usage as UsageOf};
 
-use crate::table::code_of;
+use crate::table::value_in;
 use case_table::CaseRow;
 
 /// Which accesses a register or field takes (CMSIS-SVD 1.3, `access`).
@@ -69,24 +72,63 @@ pub enum Usage {
 
 // The value of the row that has the text. The rows stand in rising order of their words, and are
 // numbered from 0.
-macro_rules! value_in {
+macro_rules! value_named {
     ($text:expr, $count:literal; $($code:literal $word:literal => $value:expr),* $(,)?) => {{
         let rows = [$(CaseRow { word: $word, code: $code }),*];
         let values = [$($value),*];
-        let code = code_of::<$count>(&rows, $text)?;
-        values.get(usize::from(code)).copied()
+        value_in::<_, $count>(&rows, &values, $text)
     }};
 }
 
 /// The access that the text names; None where it is none of the words.
 pub fn access_word(text: &[u8]) -> Option<Access>
-    ensures { (access : AccessOf) → (result ≡ Some access) ↔ (text.now ≡ access_text access) }
+    ensures { (value : AccessOf) → (result ≡ Some value) ↔ (text.now ≡ access_text value) }
 {
-    value_in!(text, 5;
+    value_named!(text, 5;
         0 "read-only" => Access::ReadOnly,
         1 "read-write" => Access::ReadWrite,
         2 "read-writeOnce" => Access::ReadWriteOnce,
         3 "write-only" => Access::WriteOnly,
         4 "writeOnce" => Access::WriteOnce,
+    )
+}
+
+/// The effect of a write that the text names; None where it is none of the words.
+pub fn write_kind(text: &[u8]) -> Option<WriteKind>
+    ensures { (value : WriteKindOf) → (result ≡ Some value) ↔ (text.now ≡ write_kind_text value) }
+{
+    value_named!(text, 9;
+        0 "clear" => WriteKind::Clear,
+        1 "modify" => WriteKind::Modify,
+        2 "oneToClear" => WriteKind::OneToClear,
+        3 "oneToSet" => WriteKind::OneToSet,
+        4 "oneToToggle" => WriteKind::OneToToggle,
+        5 "set" => WriteKind::Set,
+        6 "zeroToClear" => WriteKind::ZeroToClear,
+        7 "zeroToSet" => WriteKind::ZeroToSet,
+        8 "zeroToToggle" => WriteKind::ZeroToToggle,
+    )
+}
+
+/// The effect of a read that the text names; None where it is none of the words.
+pub fn read_action(text: &[u8]) -> Option<ReadAction>
+    ensures { (value : ReadActionOf) → (result ≡ Some value) ↔ (text.now ≡ read_action_text value) }
+{
+    value_named!(text, 4;
+        0 "clear" => ReadAction::Clear,
+        1 "modify" => ReadAction::Modify,
+        2 "modifyExternal" => ReadAction::ModifyExternal,
+        3 "set" => ReadAction::Set,
+    )
+}
+
+/// The usage that the text names; None where it is none of the words.
+pub fn usage_word(text: &[u8]) -> Option<Usage>
+    ensures { (value : UsageOf) → (result ≡ Some value) ↔ (text.now ≡ usage_text value) }
+{
+    value_named!(text, 3;
+        0 "read" => Usage::Read,
+        1 "read-write" => Usage::ReadWrite,
+        2 "write" => Usage::Write,
     )
 }
