@@ -1,3 +1,5 @@
+pub mod Fronts
 pub mod Lookup
+pub mod Ranges
 pub mod Reading
 pub mod Spelling

@@ -76,7 +76,7 @@ unfolding bounded
 bounded_exactly None value = (λ e. cc, λ e. let no : None ≡ Some value = e.0 in cc)
 bounded_exactly (Some other) value = below_exactly other value (nat_lt other (2 ^ 64)) refl
 
-same_number : (a b : ℕ) → (a == b) ≡ true → a ≡ b
+pub same_number : (a b : ℕ) → (a == b) ≡ true → a ≡ b
 same_number a b h = grind (arith, nat_tests)
 
 either_number : (a b c : ℕ) → (a == b || a == c) ≡ true → (a ≡ b) ⊎ (a ≡ c)

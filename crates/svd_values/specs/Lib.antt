@@ -1,4 +1,5 @@
 pub mod Numbers
 pub mod Numerals
+pub mod Places
 pub mod Reserved
 pub mod SchemaWords

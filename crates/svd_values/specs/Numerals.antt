@@ -1,7 +1,12 @@
 -- How digits are read from the first to the last. What the numbers mean stands in `Numbers`.
-use Rattle.std.specs.Prelude.{ℕ, ◌+◌, ◌*◌, ◌^◌, List, [], ◌∷◌, nat_lt, ◌==◌, ◌&&◌, ◌||◌, if◌then◌else◌, Option, Some, None}
+use Rattle.std.specs.Prelude.{ℕ, ◌+◌, ◌*◌, ◌^◌, List, [], ◌∷◌, nat_lt, ◌==◌, ◌&&◌, ◌||◌, if◌then◌else◌, Option, Some, None, take, drop, nat_le}
+use Rattle.std.specs.List.{prefix_len}
+use Rattle.std.specs.Option.{option_map}
 use Rattle.svd_values.specs.declared.numeral.Digits.{Digits}
 use Rattle.svd_values.specs.declared.numeral.Digits.TheVariants.{Decimal, Hexadecimal}
+use Rattle.std.specs.Prelude.{option_and_then}
+use Rattle.svd_values.specs.declared.place.Place.{Place}
+use Rattle.svd_values.specs.Places.{place_between}
 use Rattle.svd_values.specs.Numbers.{base_of, digit_of, is_digit}
 
 -- the value of digits behind a value that stands before them
@@ -40,3 +45,29 @@ read_unsigned bits text = read_digits (split_mark bits text).0 (split_mark bits 
 -- the value of a number
 unfoldable pub read_number : Digits → List ℕ → Option ℕ
 read_number bits text = read_unsigned bits (without_plus text)
+
+-- the value of the digits, and what stands behind the mark, where the mark comes first
+unfoldable pub value_before : ℕ → List ℕ → List ℕ → Option (ℕ × List ℕ)
+value_before mark digits [] = None
+value_before mark digits (first ∷ rest) = if first == mark then option_map (λ value. (value, rest)) (bounded (read_digits Decimal digits)) else None
+
+-- the decimal digits at the front up to a mark, and what stands behind it
+unfoldable pub read_until : ℕ → List ℕ → Option (ℕ × List ℕ)
+read_until mark text = value_before mark (take (prefix_len (is_digit Decimal) text) text) (drop (prefix_len (is_digit Decimal) text) text)
+
+-- the text behind its first byte, where that is the mark
+unfoldable pub behind : ℕ → List ℕ → Option (List ℕ)
+behind mark [] = None
+behind mark (first ∷ rest) = if first == mark then Some rest else None
+
+-- the place from the lowest bit to the highest, where nothing stands behind it
+unfoldable pub place_at_end : ℕ → ℕ → List ℕ → Option Place
+place_at_end msb lsb [] = if nat_le lsb msb then Some (place_between msb lsb) else None
+place_at_end msb lsb (first ∷ rest) = None
+
+-- the place that a range of bits gives
+unfoldable pub read_place : List ℕ → Option Place
+read_place text =
+    option_and_then (λ inner.
+    option_and_then (λ (high : ℕ × List ℕ).
+    option_and_then (λ (low : ℕ × List ℕ). place_at_end high.0 low.0 low.1) (read_until 93 high.1)) (read_until 58 inner)) (behind 91 text)

@@ -12,7 +12,7 @@ mod table;
 
 pub use index::{DimIndex, IndexFault, Words};
 pub use numeral::{number, value_bits};
-pub use place::Place;
+pub use place::{Place, bit_range};
 pub use schema_word::{
     Access, ReadAction, Usage, WriteKind, access_word, read_action, usage_word, write_kind,
 };

@@ -1,7 +1,9 @@
-ghost use Rattle.std.specs.Prelude.{◌≡◌, ◌↔◌, ◌≤◌, ◌<◌, ◌+◌, ◌*◌, ◌^◌, ◌⊎◌, ℕ, MatchOption, SomeIff};
-ghost use Rattle.svd_values.specs.Numbers.{base_of, digit_of, IsNumber, IsWritten};
-ghost use Rattle.svd_values.specs.Numerals.{read_digits, read_unsigned, bounded, split_mark, without_plus};
-ghost use Rattle.svd_values.specs.declared.numeral.Digits.TheVariants.{Binary, BinaryOrAny};
+ghost use Rattle.std.specs.Prelude.{◌≡◌, ◌↔◌, ◌≤◌, ◌<◌, ◌+◌, ◌*◌, ◌^◌, ◌⊎◌, ℕ, length, MatchOption, SomeIff};
+ghost use Rattle.std.specs.List.{prefix_len};
+ghost use Rattle.std.specs.Option.{option_map, option_copied};
+ghost use Rattle.svd_values.specs.Numbers.{base_of, digit_of, is_digit, IsNumber, IsWritten};
+ghost use Rattle.svd_values.specs.Numerals.{read_digits, read_unsigned, bounded, split_mark, without_plus, read_until, behind};
+ghost use Rattle.svd_values.specs.declared.numeral.Digits.TheVariants.{Decimal, Binary, BinaryOrAny};
 
 /// The digits that a number may be written in.
 #[derive(Clone, Copy)]
@@ -104,4 +106,42 @@ pub fn value_bits(text: &[u8]) -> Option<u64>
     ensures { (value : ℕ) → (result ≡ Some value) ↔ (IsNumber BinaryOrAny text.now value × (value < 2 ^ 64)) }
 {
     unsigned(without_plus(text), Digits::BinaryOrAny)
+}
+
+// How many decimal digits stand at the front.
+fn digits_len(text: &[u8]) -> usize
+    ensures count { result ≡ prefix_len (is_digit Decimal) text.now }
+    ensures within { result ≤ length text.now }
+{
+    text.iter().take_while(|byte| is_decimal(**byte)).count()
+}
+
+fn is_decimal(byte: u8) -> bool
+    ensures { result ≡ is_digit Decimal byte }
+{
+    Digits::Decimal.digit(byte).is_some()
+}
+
+// The value of the decimal digits at the front, where the mark stands behind them, and what stands
+// behind the mark.
+#[tactic(auto, unfolding(crate::specs::Numerals::read_until, crate::specs::Numerals::value_before))]
+pub(crate) fn number_until(text: &[u8], mark: u8) -> Option<(u64, &[u8])>
+    ensures { option_map (λ pair. (pair.0, pair.1.now)) result ≡ read_until mark text.now }
+{
+    let (digits, after) = text.split_at(digits_len(text));
+    match after {
+        [first, rest @ ..] if *first == mark => Some((value_of(digits, Digits::Decimal)?, rest)),
+        _ => None,
+    }
+}
+
+// What stands behind the mark, where the text begins with it.
+#[tactic(auto, unfolding(crate::specs::Numerals::behind))]
+pub(crate) fn behind(text: &[u8], mark: u8) -> Option<&[u8]>
+    ensures { option_copied result ≡ behind mark text.now }
+{
+    match text {
+        [first, rest @ ..] if *first == mark => Some(rest),
+        _ => None,
+    }
 }
