@@ -1,12 +1,14 @@
 -- How digits are read from the first to the last. What the numbers mean stands in `Numbers`.
-use Rattle.std.specs.Prelude.{ℕ, ◌+◌, ◌*◌, ◌^◌, List, [], ◌∷◌, nat_lt, ◌==◌, ◌&&◌, ◌||◌, if◌then◌else◌, Option, Some, None, take, drop, nat_le}
+use Rattle.std.specs.Prelude.{Bool, ℕ, ◌+◌, ◌*◌, ◌^◌, List, [], ◌∷◌, nat_lt, ◌==◌, ◌&&◌, ◌||◌, if◌then◌else◌, Option, Some, None, take, drop, nat_le}
 use Rattle.std.specs.List.{prefix_len}
+use Rattle.std.specs.Char.{is_ascii_uppercase, is_ascii_lowercase}
 use Rattle.std.specs.Option.{option_map}
 use Rattle.svd_values.specs.declared.numeral.Digits.{Digits}
 use Rattle.svd_values.specs.declared.numeral.Digits.TheVariants.{Decimal, Hexadecimal}
 use Rattle.std.specs.Prelude.{option_and_then}
 use Rattle.svd_values.specs.declared.place.Place.{Place}
 use Rattle.svd_values.specs.Places.{place_between}
+use Rattle.svd_values.specs.Indexes.{is_white}
 use Rattle.svd_values.specs.Numbers.{base_of, digit_of, is_digit}
 
 -- the value of digits behind a value that stands before them
@@ -71,3 +73,28 @@ read_place text =
     option_and_then (λ inner.
     option_and_then (λ (high : ℕ × List ℕ).
     option_and_then (λ (low : ℕ × List ℕ). place_at_end high.0 low.0 low.1) (read_until 93 high.1)) (read_until 58 inner)) (behind 91 text)
+
+-- the range from the first number to the last, where it doesn't fall
+unfoldable pub rising : ℕ → Option ℕ → Option (ℕ × ℕ)
+rising first None = None
+rising first (Some last) = if nat_le first last then Some (first, last) else None
+
+-- the range of two decimal numbers
+unfoldable pub read_numbers : List ℕ → Option (ℕ × ℕ)
+read_numbers text = option_and_then (λ (first : ℕ × List ℕ). rising first.0 (bounded (read_digits Decimal first.1))) (read_until 45 text)
+
+-- two letters of one case that don't fall
+abbrev pub letters_rise : ℕ → ℕ → Bool
+letters_rise first last = nat_le first last && ((is_ascii_uppercase first && is_ascii_uppercase last) || (is_ascii_lowercase first && is_ascii_lowercase last))
+
+-- the range of two letters
+unfoldable pub read_letters : List ℕ → Option (ℕ × ℕ)
+read_letters [] = None
+read_letters (first ∷ []) = None
+read_letters (first ∷ (dash ∷ [])) = None
+read_letters (first ∷ (dash ∷ (last ∷ []))) = if dash == 45 && letters_rise first last then Some (first, last) else None
+read_letters (first ∷ (dash ∷ (last ∷ (more ∷ rest)))) = None
+
+-- the text from the first byte on that is no white space
+unfoldable pub skip_white : List ℕ → List ℕ
+skip_white text = drop (prefix_len is_white text) text

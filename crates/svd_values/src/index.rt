@@ -1,6 +1,11 @@
-ghost use Rattle.std.specs.Prelude.{◌≡◌};
+ghost use Rattle.std.specs.Prelude.{◌≡◌, ◌≢◌, ◌↔◌, ◌≤◌, ℕ, [], length, drop, slice_get, MatchResult, MatchOption};
+ghost use Rattle.std.specs.List.{prefix_len};
+ghost use Rattle.pac_base.specs.Names.{is_word_byte};
+ghost use Rattle.svd_values.specs.Numerals.{read_numbers, read_letters, letters_rise, skip_white};
+ghost use Rattle.svd_values.specs.Indexes.{IsNumberRange, IsLetterRange, is_white};
 ghost use Rattle.svd_values.specs.declared.index.IndexFault.TheVariants.{Memory};
 
+use crate::numeral::{Digits, number_until, value_of};
 use pac_base::{Name, NoMemory, Seq};
 use std::alloc::{AllocError, AllocFailed};
 use thiserror::Error;
@@ -51,5 +56,79 @@ impl<T: Drop> From<AllocFailed<T>> for IndexFault {
 
     fn from(_error: AllocFailed<T>) -> IndexFault {
         IndexFault::Memory
+    }
+}
+
+// The two ends of a range of decimal numbers.
+#[tactic(auto, unfolding(crate::specs::Numerals::read_numbers, crate::specs::Numerals::rising))]
+fn number_range(text: &[u8]) -> Option<(u64, u64)>
+    ensures { result ≡ read_numbers text.now }
+{
+    let (first, rest) = number_until(text, b'-')?;
+    let last = value_of(rest, Digits::Decimal)?;
+    if first <= last {
+        Some((first, last))
+    } else {
+        None
+    }
+}
+
+fn letters_rise(first: u8, last: u8) -> bool
+    ensures { result ≡ letters_rise first last }
+{
+    let upper = first.is_ascii_uppercase() && last.is_ascii_uppercase();
+    let lower = first.is_ascii_lowercase() && last.is_ascii_lowercase();
+    first <= last && (upper || lower)
+}
+
+// The two ends of a range of letters.
+#[tactic(auto, unfolding(crate::specs::Numerals::read_letters))]
+fn letter_range(text: &[u8]) -> Option<(u8, u8)>
+    ensures { result ≡ read_letters text.now }
+{
+    match text {
+        [first, b'-', last] if letters_rise(*first, *last) => Some((*first, *last)),
+        _ => None,
+    }
+}
+
+// How many bytes at the front are letters, digits or `_`.
+fn word_len(text: &[u8]) -> usize
+    ensures count { result ≡ prefix_len is_word_byte text.now }
+    ensures within { result ≤ length text.now }
+{
+    text.iter().take_while(|byte| is_word_byte(**byte)).count()
+}
+
+fn is_word_byte(byte: u8) -> bool
+    ensures { result ≡ is_word_byte byte }
+{
+    matches!(byte, b'A'..=b'Z' | b'a'..=b'z' | b'0'..=b'9' | b'_')
+}
+
+// How many bytes at the front are white space.
+fn white_len(text: &[u8]) -> usize
+    ensures count { result ≡ prefix_len is_white text.now }
+    ensures within { result ≤ length text.now }
+{
+    text.iter().take_while(|byte| is_white(**byte)).count()
+}
+
+fn is_white(byte: u8) -> bool
+    ensures { result ≡ is_white byte }
+{
+    matches!(byte, b' ' | b'\t' | b'\r' | b'\n')
+}
+
+// The text behind a comma and the white space there; None where the text is empty, and a fault
+// where it begins with anything else.
+#[tactic(auto, unfolding(crate::specs::Numerals::skip_white))]
+fn behind_comma(text: &[u8]) -> Result<Option<&[u8]>, IndexFault>
+    ensures { MatchResult result (λ next. MatchOption next (text.now ≡ []) (λ rest. rest.now ≡ skip_white (drop 1 text.now) × (slice_get text.now 0 ≡ Some 44))) (λ fault. (fault ≡ IndexFault.NotAnIndex) × (text.now ≢ []) × (slice_get text.now 0 ≢ Some 44)) }
+{
+    match text {
+        [] => Ok(None),
+        [b',', rest @ ..] => Ok(Some(rest.split_at(white_len(rest)).1)),
+        _ => Err(IndexFault::NotAnIndex),
     }
 }
