@@ -3,3 +3,4 @@ pub mod Lookup
 pub mod Ranges
 pub mod Reading
 pub mod Spelling
+pub mod WordLists

@@ -1,13 +1,14 @@
-ghost use Rattle.std.specs.Prelude.{◌≡◌, ◌≢◌, ◌↔◌, ◌≤◌, ℕ, [], length, drop, slice_get, MatchResult, MatchOption};
+ghost use Rattle.std.specs.Prelude.{◌≡◌, ◌≢◌, ◌↔◌, ◌≤◌, ℕ, [], length, drop, slice_get, List, MatchResult, MatchOption, IfOk, IsErrOf};
 ghost use Rattle.std.specs.List.{prefix_len};
-ghost use Rattle.pac_base.specs.Names.{is_word_byte};
+ghost use Rattle.pac_base.specs.Names.{is_word_byte, IsWord};
 ghost use Rattle.svd_values.specs.Numerals.{read_numbers, read_letters, letters_rise, skip_white};
-ghost use Rattle.svd_values.specs.Indexes.{IsNumberRange, IsLetterRange, is_white};
+ghost use Rattle.svd_values.specs.Indexes.{IsNumberRange, IsLetterRange, is_white, IsFullWord, IsWordList, IsIndex};
+ghost use Rattle.svd_values.specs.declared.index.DimIndex.{DimIndex as DimIndexOf};
 ghost use Rattle.svd_values.specs.declared.index.IndexFault.TheVariants.{Memory};
 
 use crate::numeral::{Digits, number_until, value_of};
-use pac_base::{Name, NoMemory, Seq};
-use std::alloc::{AllocError, AllocFailed};
+use pac_base::{Name, NameFault, NoMemory, Seq};
+use std::alloc::{AllocError, AllocFailed, Global};
 use thiserror::Error;
 
 /// The words of an index list, seen as a list of names.
@@ -131,4 +132,51 @@ fn behind_comma(text: &[u8]) -> Result<Option<&[u8]>, IndexFault>
         [b',', rest @ ..] => Ok(Some(rest.split_at(white_len(rest)).1)),
         _ => Err(IndexFault::NotAnIndex),
     }
+}
+
+// The name that the word at the front of a list is.
+fn named(alloc: Global, word: &[u8]) -> Result<Name, IndexFault>
+    requires { IsWord word.now }
+    ensures { MatchResult result (λ name. (name ≡ word.now) × IsFullWord word.now) (λ fault. fault ≡ IndexFault.NotAnIndex → word.now ≡ []) }
+{
+    if word.is_empty() {
+        return Err(IndexFault::NotAnIndex);
+    }
+    match Name::new(alloc, word) {
+        Ok(name) => Ok(name),
+        Err(NameFault::Memory) => Err(IndexFault::Memory),
+        Err(NameFault::NotAName) => unreachable!(),
+    }
+}
+
+// The words of a list.
+fn words(alloc: Global, text: &[u8]) -> Result<Words, IndexFault>
+    ensures { MatchResult result (IsWordList text.now) (λ fault. fault ≡ IndexFault.NotAnIndex → (words : List (List ℕ)) → ¬ (IsWordList text.now words)) }
+{
+    let mut words = Words::new(alloc);
+    let mut rest = text;
+    'words: loop {
+        let (word, after) = rest.split_at(word_len(rest));
+        words.push(named(alloc, word)?)?;
+        match behind_comma(after)? {
+            None => return Ok(words),
+            Some(next) => rest = next,
+        }
+    }
+}
+
+/// The indexes that the text gives: a range of numbers as `0-7`, a range of letters of one case as
+/// `A-D`, or words parted by commas. `NotAnIndex` exactly where the text is none of these or the
+/// range falls.
+pub fn dim_index(alloc: Global, text: &[u8]) -> Result<DimIndex, IndexFault>
+    ensures ok { IfOk result (IsIndex text.now) }
+    ensures refused { IsErrOf result IndexFault.NotAnIndex → (index : DimIndexOf) → ¬ (IsIndex text.now index) }
+{
+    if let Some((first, last)) = number_range(text) {
+        return Ok(DimIndex::Numbers { first, last });
+    }
+    if let Some((first, last)) = letter_range(text) {
+        return Ok(DimIndex::Letters { first, last });
+    }
+    Ok(DimIndex::Words(words(alloc, text)?))
 }

@@ -10,7 +10,7 @@ mod reserved;
 mod schema_word;
 mod table;
 
-pub use index::{DimIndex, IndexFault, Words};
+pub use index::{DimIndex, IndexFault, Words, dim_index};
 pub use numeral::{number, value_bits};
 pub use place::{Place, bit_range};
 pub use schema_word::{
