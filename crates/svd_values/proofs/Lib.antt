@@ -1,4 +1,5 @@
 pub mod Fronts
+pub mod IndexRanges
 pub mod Lookup
 pub mod Ranges
 pub mod Reading

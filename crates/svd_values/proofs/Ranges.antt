@@ -31,7 +31,7 @@ digits_exactly text value =
     let exactly : (bounded (read_digits Decimal text) ≡ Some value) ↔ ((read_digits Decimal text ≡ Some value) × (value < 2 ^ 64)) = bounded_exactly (read_digits Decimal text) value in
     ((λ e. let r = exactly.0 e in (takes_written Decimal text value r.0, r.1)), (λ w. exactly.1 (again_written Decimal text value w.0, w.1)))
 
-none_some : {A : Type 0} (value : A) → ◌≡◌ {A = Option A} None (Some value) → ⊥
+pub none_some : {A : Type 0} (value : A) → ◌≡◌ {A = Option A} None (Some value) → ⊥
 none_some value is = cc
 
 paired : (read : Option ℕ) (after : List ℕ) (value : ℕ) (rest : List ℕ) → option_map {U = ℕ × List ℕ} (λ v. (v, after)) read ≡ Some (value, rest) → (read ≡ Some value) × (after ≡ rest)

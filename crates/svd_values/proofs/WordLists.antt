@@ -1,10 +1,10 @@
 -- A list of words is read word by word: the word at its front, and the list behind the comma.
-use Rattle.std.proofs.Common.{◌≡◌, ◌≢◌, ◌⊎◌, ℕ, suc, ◌+◌, ◌<◌, ◌≤◌, List, [], ◌∷◌, ◌++◌, length, take, drop, Bool, true, false, ◌||◌, refl, sym, ap, ◌∙◌, subst, arith, Option, Some, None, inl, inr, append_assoc, append-nil, length-append, length-drop, IsTrue, ◌==◌, nat_le, ◌&&◌}
-use Rattle.std.specs.Prelude.{slice_get, codes}
+use Rattle.std.proofs.Common.{◌≡◌, ◌≢◌, ℕ, ◌<◌, List, [], ◌∷◌, ◌++◌, length, take, drop, Bool, true, false, refl, sym, ap, ◌∙◌, subst, arith, Some, append_assoc, append-nil, length-append, length-drop, IsTrue}
+use Rattle.std.specs.Prelude.{slice_get}
 use Rattle.std.specs.List.{list_all, prefix_len}
 use Rattle.std.proofs.lemmas.Bool.Decides.{nat_tests}
-use Rattle.pac_base.specs.Names.{is_word_byte, IsWord}
-use Rattle.svd_values.specs.Indexes.{is_white, IsFullWord, IsWordBefore, IsWordList}
+use Rattle.pac_base.specs.Names.{is_word_byte}
+use Rattle.svd_values.specs.Indexes.{is_white, IsFullWord, IsWordList}
 use Rattle.svd_values.specs.Numerals.{skip_white}
 use Rattle.svd_values.proofs.Fronts.{Stops, IsFront, front_of, front_is, one_front, both_true}
 

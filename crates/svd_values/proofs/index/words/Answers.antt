@@ -1,8 +1,7 @@
-use Rattle.std.proofs.Common.{◌≡◌, ◌<◌, sym, subst, length, drop}
+use Rattle.std.proofs.Common.{◌<◌, sym, subst, length, drop}
 use Rattle.std.proofs.lemmas.Result.{err_from_is_err_and}
 use Rattle.pac_base.specs.Names.{is_word_byte}
-use Rattle.svd_values.proofs.Fronts.{IsFront}
-use Rattle.svd_values.proofs.WordLists.{front_at, begun, read_more, read_all, read_nothing, no_word, no_comma, shorter, comma_first}
+use Rattle.svd_values.proofs.WordLists.{front_at, read_more, read_nothing, no_word, no_comma, shorter, comma_first}
 use Rattle.svd_values.proofs.index.words.Goals as goal
 
 pub named-requires : goal.named-requires
