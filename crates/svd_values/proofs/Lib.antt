@@ -1,3 +1,4 @@
+pub mod CallNames
 pub mod Fronts
 pub mod IndexRanges
 pub mod Lookup

@@ -1,3 +1,4 @@
+pub mod AccessorNames
 pub mod Indexes
 pub mod Numbers
 pub mod Numerals

@@ -6,8 +6,9 @@ ghost use Rattle.svd_values.specs.Indexes.{IsNumberRange, IsLetterRange, is_whit
 ghost use Rattle.svd_values.specs.declared.index.DimIndex.{DimIndex as DimIndexOf};
 ghost use Rattle.svd_values.specs.declared.index.IndexFault.TheVariants.{Memory};
 
+use crate::call_name::{is_word_byte, named};
 use crate::numeral::{Digits, number_until, value_of};
-use pac_base::{Name, NameFault, NoMemory, Seq};
+use pac_base::{Name, NoMemory, Seq};
 use std::alloc::{AllocError, AllocFailed, Global};
 use thiserror::Error;
 
@@ -101,12 +102,6 @@ fn word_len(text: &[u8]) -> usize
     text.iter().take_while(|byte| is_word_byte(**byte)).count()
 }
 
-fn is_word_byte(byte: u8) -> bool
-    ensures { result ≡ is_word_byte byte }
-{
-    matches!(byte, b'A'..=b'Z' | b'a'..=b'z' | b'0'..=b'9' | b'_')
-}
-
 // How many bytes at the front are white space.
 fn white_len(text: &[u8]) -> usize
     ensures count { result ≡ prefix_len is_white text.now }
@@ -135,18 +130,14 @@ fn behind_comma(text: &[u8]) -> Result<Option<&[u8]>, IndexFault>
 }
 
 // The name that the word at the front of a list is.
-fn named(alloc: Global, word: &[u8]) -> Result<Name, IndexFault>
+fn first_name(alloc: Global, word: &[u8]) -> Result<Name, IndexFault>
     requires { IsWord word.now }
     ensures { MatchResult result (λ name. (name ≡ word.now) × IsFullWord word.now) (λ fault. fault ≡ IndexFault.NotAnIndex → word.now ≡ []) }
 {
     if word.is_empty() {
         return Err(IndexFault::NotAnIndex);
     }
-    match Name::new(alloc, word) {
-        Ok(name) => Ok(name),
-        Err(NameFault::Memory) => Err(IndexFault::Memory),
-        Err(NameFault::NotAName) => unreachable!(),
-    }
+    Ok(named(alloc, word)?)
 }
 
 // The words of a list.
@@ -157,7 +148,7 @@ fn words(alloc: Global, text: &[u8]) -> Result<Words, IndexFault>
     let mut rest = text;
     'words: loop {
         let (word, after) = rest.split_at(word_len(rest));
-        words.push(named(alloc, word)?)?;
+        words.push(first_name(alloc, word)?)?;
         match behind_comma(after)? {
             None => return Ok(words),
             Some(next) => rest = next,

@@ -3,6 +3,7 @@
 // of enumerated values.
 #![tactic(auto)]
 
+mod call_name;
 mod index;
 mod numeral;
 mod place;
@@ -10,6 +11,7 @@ mod reserved;
 mod schema_word;
 mod table;
 
+pub use call_name::{accessor, is_call, slot_name, variant_call};
 pub use index::{DimIndex, IndexFault, Words, dim_index};
 pub use numeral::{number, value_bits};
 pub use place::{Place, bit_range};
