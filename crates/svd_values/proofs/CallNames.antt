@@ -61,7 +61,7 @@ all_or (byte ∷ word) is =
     let each = both_true (is_word_byte byte) (list_all is_word_byte word) is in
     both (is_plain_byte byte) (list_all is_plain_byte word) (rw each.0 refl) (all_or word each.1)
 
-all_append : (test : ℕ → Bool) (front back : List ℕ) → list_all test front ≡ true → list_all test back ≡ true → list_all test (front ++ back) ≡ true
+pub all_append : (test : ℕ → Bool) (front back : List ℕ) → list_all test front ≡ true → list_all test back ≡ true → list_all test (front ++ back) ≡ true
 all_append test [] back f b = b
 all_append test (byte ∷ front) back f b =
     let each = both_true (test byte) (list_all test front) f in

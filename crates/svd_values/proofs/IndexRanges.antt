@@ -12,7 +12,7 @@ use Rattle.svd_values.proofs.Fronts.{both_true}
 use Rattle.svd_values.proofs.Ranges.{then_some, none_some, digits_exactly, takes_until, again_until}
 use Rattle.svd_values.proofs.Spelling.{same_number}
 
-first_is : (a b c d : ℕ) → ◌≡◌ {A = Option (ℕ × ℕ)} (Some (a, b)) (Some (c, d)) → (a ≡ c) × (b ≡ d)
+pub first_is : (a b c d : ℕ) → ◌≡◌ {A = Option (ℕ × ℕ)} (Some (a, b)) (Some (c, d)) → (a ≡ c) × (b ≡ d)
 first_is a b c d is = let pair : ◌≡◌ {A = ℕ × ℕ} (a, b) (c, d) = cc in (ap (λ (p : ℕ × ℕ). p.0) pair, ap (λ (p : ℕ × ℕ). p.1) pair)
 
 rises_to : (from to first last : ℕ) (rises : Bool) → nat_le from to ≡ rises → rising from (Some to) ≡ Some (first, last) → (from ≡ first) × (to ≡ last) × (first ≤ last)

@@ -189,7 +189,7 @@ no_plus twos text value (bits (inl is)) = rw is.whole refl
 no_plus twos text value (bits (inr (inl is))) = rw is.whole refl
 no_plus twos text value (bits (inr (inr is))) = rw is.whole refl
 
-again_number : (twos : Digits) (text : List ℕ) (value : ℕ) → IsNumber twos text value → read_number twos text ≡ Some value
+pub again_number : (twos : Digits) (text : List ℕ) (value : ℕ) → IsNumber twos text value → read_number twos text ≡ Some value
 unfolding read_number without_plus
 again_number twos text value (inl is) = ap (read_unsigned twos) (no_plus twos text value is) ∙ again_unsigned twos text value is
 again_number twos text value (inr is) = rw is.whole (again_unsigned twos is.behind value is.number)

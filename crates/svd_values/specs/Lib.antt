@@ -1,5 +1,6 @@
 pub mod AccessorNames
 pub mod Indexes
+pub mod Meanings
 pub mod Numbers
 pub mod Numerals
 pub mod Places
