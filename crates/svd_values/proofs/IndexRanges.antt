@@ -4,7 +4,7 @@ use Rattle.std.specs.Char.{is_ascii_uppercase, is_ascii_lowercase}
 use Rattle.std.proofs.lemmas.Bool.{leb-true, le-leb}
 use Rattle.svd_values.specs.declared.numeral.Digits.TheVariants.{Decimal}
 use Rattle.svd_values.specs.Numbers.{IsWritten}
-use Rattle.svd_values.specs.Numerals.{bounded, read_digits, read_until, rising, read_numbers, letters_rise, read_letters}
+use Rattle.svd_values.specs.Readers.{bounded, read_digits, read_until, rising, read_numbers, letters_rise, read_letters}
 use Rattle.svd_values.specs.declared.index.DimIndex.{DimIndex}
 use Rattle.svd_values.specs.declared.index.DimIndex.TheVariants.{Numbers, Letters, Words}
 use Rattle.svd_values.specs.Indexes.{IsNumberRange, IsLetterRange, IsWordList, IsIndex}

@@ -7,10 +7,10 @@ use Rattle.pac_base.specs.Names.{is_word_byte}
 use Rattle.svd_values.specs.declared.numeral.Digits.{Digits}
 use Rattle.svd_values.specs.declared.numeral.Digits.TheVariants.{Decimal}
 use Rattle.svd_values.specs.declared.index.DimIndex.TheVariants.{Numbers, Letters, Words}
-use Rattle.svd_values.specs.Numbers.{is_digit}
-use Rattle.svd_values.specs.Numerals.{read_place, skip_white}
+use Rattle.svd_values.specs.Numbers.{IsNumber, is_digit}
+use Rattle.svd_values.specs.Readers.{read_place, skip_white}
 use Rattle.svd_values.specs.Indexes.{is_white, IsNumberRange, IsLetterRange, IsWordList}
-use Rattle.svd_values.specs.Meanings.{HasOneNumber, HasOnePlace, HasOneIndex}
+use Rattle.svd_values.specs.Meanings.{HasOnePlace, HasOneIndex}
 use Rattle.svd_values.proofs.CallNames.{all_append}
 use Rattle.svd_values.proofs.Fronts.{both_true, front_of}
 use Rattle.svd_values.proofs.IndexRanges.{first_is, numbers_exactly, letters_exactly}
@@ -22,7 +22,7 @@ use Rattle.svd_values.proofs.WordLists.GoesOn.{ends, goes}
 same_value : {A : Type 0} (one other : A) → ◌≡◌ {A = Option A} (Some one) (Some other) → one ≡ other
 same_value one other is = cc
 
-pub one_number : (binary : Digits) (text : List ℕ) → HasOneNumber binary text
+pub one_number : (twos : Digits) (text : List ℕ) (value other : ℕ) → IsNumber twos text value → IsNumber twos text other → value ≡ other
 one_number twos text value other is also = same_value value other (sym (again_number twos text value is) ∙ again_number twos text other also)
 
 pub one_place : (text : List ℕ) → HasOnePlace text

@@ -8,7 +8,7 @@ use Rattle.std.proofs.lemmas.Bool.{leb-true, le-leb}
 use Rattle.svd_values.specs.declared.numeral.Digits.TheVariants.{Decimal}
 use Rattle.svd_values.specs.declared.place.Place.{Place}
 use Rattle.svd_values.specs.Numbers.{is_digit, IsWritten}
-use Rattle.svd_values.specs.Numerals.{bounded, read_digits, value_before, read_until, behind, place_at_end, read_place}
+use Rattle.svd_values.specs.Readers.{bounded, read_digits, value_before, read_until, behind, place_at_end, read_place}
 use Rattle.svd_values.specs.Places.{place_between, IsBitRange, IsPlace}
 use Rattle.svd_values.proofs.Fronts.{front_of, front_is}
 use Rattle.svd_values.proofs.Spelling.{takes_written, again_written, bounded_exactly, same_number}

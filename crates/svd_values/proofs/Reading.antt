@@ -8,7 +8,7 @@ use Rattle.std.proofs.Math.Seq.{drop-cons}
 use Rattle.std.proofs.lemmas.List.{drop_all, nil_from_length}
 use Rattle.svd_values.specs.declared.numeral.Digits.{Digits}
 use Rattle.svd_values.specs.Numbers.{base_of, digit_of, is_digit}
-use Rattle.svd_values.specs.Numerals.{read_on, bounded, read_digits}
+use Rattle.svd_values.specs.Readers.{read_on, bounded, read_digits}
 
 pub no_digits : (digits : Digits) (text : List ℕ) → text ≡ [] → None ≡ bounded (read_digits digits text)
 unfolding bounded read_digits

@@ -10,7 +10,7 @@ use Rattle.svd_values.specs.declared.numeral.Digits.{Digits}
 use Rattle.svd_values.specs.declared.numeral.Digits.TheVariants.{Decimal, Hexadecimal}
 use Rattle.svd_values.specs.Numbers.{base_of, digit_of, is_digit, sum_of, IsWritten, IsUnsigned, IsNumber}
 use Rattle.svd_values.specs.Numbers.IsUnsigned.{decimal, hexadecimal, bits}
-use Rattle.svd_values.specs.Numerals.{read_on, bounded, read_digits, split_mark, without_plus, read_unsigned, read_number}
+use Rattle.svd_values.specs.Readers.{read_on, bounded, read_digits, split_mark, without_plus, read_unsigned, read_number}
 
 pub both_true : (a b : Bool) → (a && b) ≡ true → (a ≡ true) × (b ≡ true)
 both_true true b h = (refl, h)

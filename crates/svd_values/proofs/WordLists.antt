@@ -5,7 +5,7 @@ use Rattle.std.specs.List.{list_all, prefix_len}
 use Rattle.std.proofs.lemmas.Bool.Decides.{nat_tests}
 use Rattle.pac_base.specs.Names.{is_word_byte}
 use Rattle.svd_values.specs.Indexes.{is_white, IsFullWord, IsWordList}
-use Rattle.svd_values.specs.Numerals.{skip_white}
+use Rattle.svd_values.specs.Readers.{skip_white}
 use Rattle.svd_values.proofs.Fronts.{Stops, IsFront, front_of, front_is, one_front, both_true}
 
 -- the bytes at the front, as a split gives them

@@ -57,3 +57,11 @@ pub record IsSigned (binary : Digits) (text : List ℕ) (value : ℕ) : Type 0 w
 -- the text is a number of that value
 abbrev pub IsNumber : Digits → List ℕ → ℕ → Type 0
 IsNumber binary text value = IsUnsigned binary text value ⊎ IsSigned binary text value
+
+-- the text is a whole number of a description
+abbrev pub IsWholeNumber : List ℕ → ℕ → Type 0
+IsWholeNumber text value = IsNumber Binary text value
+
+-- the text is the value of an enumerated value, in whose binary digits `x` and `X` count as 0
+abbrev pub IsValueBits : List ℕ → ℕ → Type 0
+IsValueBits text value = IsNumber BinaryOrAny text value

@@ -1,7 +1,7 @@
 ghost use Rattle.std.specs.Prelude.{◌≡◌, ◌≢◌, ◌↔◌, ◌≤◌, ℕ, [], length, drop, slice_get, List, MatchResult, MatchOption, IfOk, IsErrOf};
 ghost use Rattle.std.specs.List.{prefix_len};
 ghost use Rattle.pac_base.specs.Names.{is_word_byte, IsWord};
-ghost use Rattle.svd_values.specs.Numerals.{read_numbers, read_letters, letters_rise, skip_white};
+ghost use Rattle.svd_values.specs.Readers.{read_numbers, read_letters, letters_rise, skip_white};
 ghost use Rattle.svd_values.specs.Indexes.{IsNumberRange, IsLetterRange, is_white, IsFullWord, IsWordList, IsIndex};
 ghost use Rattle.svd_values.specs.declared.index.DimIndex.{DimIndex as DimIndexOf};
 ghost use Rattle.svd_values.specs.declared.index.IndexFault.TheVariants.{Memory};
@@ -62,7 +62,7 @@ impl<T: Drop> From<AllocFailed<T>> for IndexFault {
 }
 
 // The two ends of a range of decimal numbers.
-#[tactic(auto, unfolding(crate::specs::Numerals::read_numbers, crate::specs::Numerals::rising))]
+#[tactic(auto, unfolding(crate::specs::Readers::read_numbers, crate::specs::Readers::rising))]
 fn number_range(text: &[u8]) -> Option<(u64, u64)>
     ensures { result ≡ read_numbers text.now }
 {
@@ -84,7 +84,7 @@ fn letters_rise(first: u8, last: u8) -> bool
 }
 
 // The two ends of a range of letters.
-#[tactic(auto, unfolding(crate::specs::Numerals::read_letters))]
+#[tactic(auto, unfolding(crate::specs::Readers::read_letters))]
 fn letter_range(text: &[u8]) -> Option<(u8, u8)>
     ensures { result ≡ read_letters text.now }
 {
@@ -118,7 +118,7 @@ fn is_white(byte: u8) -> bool
 
 // The text behind a comma and the white space there; None where the text is empty, and a fault
 // where it begins with anything else.
-#[tactic(auto, unfolding(crate::specs::Numerals::skip_white))]
+#[tactic(auto, unfolding(crate::specs::Readers::skip_white))]
 fn behind_comma(text: &[u8]) -> Result<Option<&[u8]>, IndexFault>
     ensures { MatchResult result (λ next. MatchOption next (text.now ≡ []) (λ rest. rest.now ≡ skip_white (drop 1 text.now) × (slice_get text.now 0 ≡ Some 44))) (λ fault. (fault ≡ IndexFault.NotAnIndex) × (text.now ≢ []) × (slice_get text.now 0 ≢ Some 44)) }
 {

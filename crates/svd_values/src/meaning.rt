@@ -1,16 +1,15 @@
-ghost use Rattle.svd_values.specs.Meanings.{HasOneNumber, HasOnePlace, HasOneIndex};
-ghost use Rattle.svd_values.specs.declared.numeral.Digits.TheVariants.{Binary, BinaryOrAny};
+ghost use Rattle.svd_values.specs.Meanings.{HasOneNumber, HasOneValue, HasOnePlace, HasOneIndex};
 
 /// A law: no text is a number of two values.
 pub fn number_has_one_meaning(text: &[u8])
-    ensures { HasOneNumber Binary text.now }
+    ensures { HasOneNumber text.now }
 {
     let _ = text;
 }
 
 /// A law: no text gives an enumerated value two values.
 pub fn value_bits_has_one_meaning(text: &[u8])
-    ensures { HasOneNumber BinaryOrAny text.now }
+    ensures { HasOneValue text.now }
 {
     let _ = text;
 }

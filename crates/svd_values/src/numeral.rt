@@ -1,8 +1,8 @@
 ghost use Rattle.std.specs.Prelude.{◌≡◌, ◌↔◌, ◌≤◌, ◌<◌, ◌+◌, ◌*◌, ◌^◌, ◌⊎◌, ℕ, length, MatchOption, SomeIff};
 ghost use Rattle.std.specs.List.{prefix_len};
 ghost use Rattle.std.specs.Option.{option_map, option_copied};
-ghost use Rattle.svd_values.specs.Numbers.{base_of, digit_of, is_digit, IsNumber, IsWritten};
-ghost use Rattle.svd_values.specs.Numerals.{read_digits, read_unsigned, bounded, split_mark, without_plus, read_until, behind};
+ghost use Rattle.svd_values.specs.Numbers.{base_of, digit_of, is_digit, IsWholeNumber, IsValueBits};
+ghost use Rattle.svd_values.specs.Readers.{read_digits, read_unsigned, bounded, split_mark, without_plus, read_until, behind};
 ghost use Rattle.svd_values.specs.declared.numeral.Digits.TheVariants.{Decimal, Binary, BinaryOrAny};
 
 /// The digits that a number may be written in.
@@ -60,7 +60,7 @@ pub(crate) fn value_of(text: &[u8], digits: Digits) -> Option<u64>
 }
 
 // Which digits a number without sign has, and the text from the first of them on.
-#[tactic(auto, unfolding(crate::specs::Numerals::split_mark))]
+#[tactic(auto, unfolding(crate::specs::Readers::split_mark))]
 fn split_mark(text: &[u8], binary: Digits) -> (Digits, &[u8])
     ensures digits { result.0 ≡ (split_mark binary text.now).0 }
     ensures rest { result.1.now ≡ (split_mark binary text.now).1 }
@@ -73,7 +73,7 @@ fn split_mark(text: &[u8], binary: Digits) -> (Digits, &[u8])
     }
 }
 
-#[tactic(auto, unfolding(crate::specs::Numerals::without_plus))]
+#[tactic(auto, unfolding(crate::specs::Readers::without_plus))]
 fn without_plus(text: &[u8]) -> &[u8]
     ensures { result.now ≡ without_plus text.now }
 {
@@ -83,7 +83,7 @@ fn without_plus(text: &[u8]) -> &[u8]
     }
 }
 
-#[tactic(auto, unfolding(crate::specs::Numerals::read_unsigned))]
+#[tactic(auto, unfolding(crate::specs::Readers::read_unsigned))]
 fn unsigned(text: &[u8], binary: Digits) -> Option<u64>
     ensures { result ≡ bounded (read_unsigned binary text.now) }
 {
@@ -95,7 +95,7 @@ fn unsigned(text: &[u8], binary: Digits) -> Option<u64>
 /// hexadecimal digits, or `#`, `0b` or `0B` and binary digits. None where the text is none of these
 /// or its value is 2^64 or more.
 pub fn number(text: &[u8]) -> Option<u64>
-    ensures { (value : ℕ) → (result ≡ Some value) ↔ (IsNumber Binary text.now value × (value < 2 ^ 64)) }
+    ensures { (value : ℕ) → (result ≡ Some value) ↔ (IsWholeNumber text.now value × (value < 2 ^ 64)) }
 {
     unsigned(without_plus(text), Digits::Binary)
 }
@@ -103,7 +103,7 @@ pub fn number(text: &[u8]) -> Option<u64>
 /// The value of an enumerated value: a whole number as `number` reads it, where `x` or `X` among
 /// binary digits counts as 0.
 pub fn value_bits(text: &[u8]) -> Option<u64>
-    ensures { (value : ℕ) → (result ≡ Some value) ↔ (IsNumber BinaryOrAny text.now value × (value < 2 ^ 64)) }
+    ensures { (value : ℕ) → (result ≡ Some value) ↔ (IsValueBits text.now value × (value < 2 ^ 64)) }
 {
     unsigned(without_plus(text), Digits::BinaryOrAny)
 }
@@ -124,7 +124,7 @@ fn is_decimal(byte: u8) -> bool
 
 // The value of the decimal digits at the front, where the mark stands behind them, and what stands
 // behind the mark.
-#[tactic(auto, unfolding(crate::specs::Numerals::read_until, crate::specs::Numerals::value_before))]
+#[tactic(auto, unfolding(crate::specs::Readers::read_until, crate::specs::Readers::value_before))]
 pub(crate) fn number_until(text: &[u8], mark: u8) -> Option<(u64, &[u8])>
     ensures { option_map (λ pair. (pair.0, pair.1.now)) result ≡ read_until mark text.now }
 {
@@ -136,7 +136,7 @@ pub(crate) fn number_until(text: &[u8], mark: u8) -> Option<(u64, &[u8])>
 }
 
 // What stands behind the mark, where the text begins with it.
-#[tactic(auto, unfolding(crate::specs::Numerals::behind))]
+#[tactic(auto, unfolding(crate::specs::Readers::behind))]
 pub(crate) fn behind(text: &[u8], mark: u8) -> Option<&[u8]>
     ensures { option_copied result ≡ behind mark text.now }
 {

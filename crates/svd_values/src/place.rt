@@ -1,5 +1,5 @@
 ghost use Rattle.std.specs.Prelude.{◌≡◌, ◌↔◌};
-ghost use Rattle.svd_values.specs.Numerals.{read_place, place_at_end};
+ghost use Rattle.svd_values.specs.Readers.{read_place, place_at_end};
 ghost use Rattle.svd_values.specs.Places.{IsPlace};
 ghost use Rattle.svd_values.specs.declared.place.Place.{Place as PlaceOf};
 
@@ -23,7 +23,7 @@ pub fn bit_range(text: &[u8]) -> Option<Place>
     read_place(text)
 }
 
-#[tactic(auto, unfolding(crate::specs::Numerals::read_place))]
+#[tactic(auto, unfolding(crate::specs::Readers::read_place))]
 fn read_place(text: &[u8]) -> Option<Place>
     ensures { result ≡ read_place text.now }
 {
@@ -32,7 +32,7 @@ fn read_place(text: &[u8]) -> Option<Place>
     place_at_end(msb, lsb, rest)
 }
 
-#[tactic(auto, unfolding(crate::specs::Numerals::place_at_end))]
+#[tactic(auto, unfolding(crate::specs::Readers::place_at_end))]
 fn place_at_end(msb: u64, lsb: u64, rest: &[u8]) -> Option<Place>
     ensures { result ≡ place_at_end msb lsb rest.now }
 {

@@ -1,6 +1,6 @@
 use Rattle.std.proofs.Common.{ap, ◌∙◌}
 use Rattle.svd_values.specs.declared.numeral.Digits.TheVariants.{BinaryOrAny}
-use Rattle.svd_values.specs.Numerals.{bounded, read_number, read_unsigned}
+use Rattle.svd_values.specs.Readers.{bounded, read_number, read_unsigned}
 use Rattle.svd_values.proofs.Spelling.{number_exactly}
 use Rattle.svd_values.proofs.numeral.value_bits.Goals as goal
 

@@ -1,5 +1,5 @@
 use Rattle.std.proofs.Common.{ap, sym, ◌∙◌}
-use Rattle.svd_values.specs.Numerals.{bounded}
+use Rattle.svd_values.specs.Readers.{bounded}
 use Rattle.svd_values.proofs.Reading.{no_digits, some_digits, digit_stops, digit_goes, digits_end, is_none, is_some}
 use Rattle.svd_values.proofs.numeral.value_of.Goals as goal
 

@@ -1,5 +1,5 @@
 use Rattle.std.proofs.Common.{◌≡◌, ◌<◌, ◌^◌, drop}
-use Rattle.svd_values.specs.Numerals.{read_on, bounded}
+use Rattle.svd_values.specs.Readers.{read_on, bounded}
 use Rattle.svd_values.proofs.numeral.value_of.Given as goal
 
 abbrev pub invariant-loop-byte : goal.invariant-loop-byte

@@ -1,4 +1,5 @@
--- How digits are read from the first to the last. What the numbers mean stands in `Numbers`.
+-- How the texts are read from the first byte on: what the crate's own readers give. What the texts
+-- mean stands in `Numbers`, `Places` and `Indexes`; the public calls are proved against those.
 use Rattle.std.specs.Prelude.{Bool, ℕ, ◌+◌, ◌*◌, ◌^◌, List, [], ◌∷◌, nat_lt, ◌==◌, ◌&&◌, ◌||◌, if◌then◌else◌, Option, Some, None, take, drop, nat_le}
 use Rattle.std.specs.List.{prefix_len}
 use Rattle.std.specs.Char.{is_ascii_uppercase, is_ascii_lowercase}
