@@ -1,0 +1,57 @@
+use pac_base::Text;
+use thiserror::Error;
+
+/// Why a call of `pac` didn't do what its words asked for.
+#[derive(Debug, Drop, Error)]
+pub enum PacFault {
+    /// Memory was wanting. Status 1.
+    #[error("out of memory")]
+    Memory,
+    /// The words ask for nothing that there is. Status 2.
+    #[error("{0}")]
+    Words(WordsFault),
+    /// Reading this file failed. Status 3.
+    #[error("cannot read a file")]
+    Read {
+        /// The name of the file as the words have it.
+        name: Text,
+    },
+    /// Writing the output failed. Status 4.
+    #[error("cannot write")]
+    Write,
+    /// The description is refused. Status 6.
+    #[error("{0}")]
+    Svd(SvdFault),
+    /// The input passes a limit. Status 11.
+    #[error("{0}")]
+    Limit(LimitFault),
+}
+
+/// Why the words ask for nothing that there is.
+#[derive(Debug, Drop, Error)]
+pub enum WordsFault {
+    /// They aren't those of a command.
+    #[error("the words are those of no command")]
+    Clap,
+}
+
+/// Why a description is refused.
+#[derive(Debug, Drop, Error)]
+pub enum SvdFault {
+    /// It isn't a description of plain registers.
+    #[error("not plain")]
+    NotPlain,
+}
+
+/// Which limit the input passes.
+#[derive(Debug, Drop, Error)]
+pub enum LimitFault {
+    /// A file is longer than a file may be.
+    #[error("a file is longer than {limit} bytes")]
+    FileTooLong {
+        /// The name of the file as the words have it.
+        name: Text,
+        /// How many bytes it may have.
+        limit: u64,
+    },
+}

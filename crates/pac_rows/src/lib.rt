@@ -1,0 +1,8 @@
+// The worked rows: whole calls of `pac` over files and sinks in memory, with their outputs, fault
+// lines and statuses.
+#![tactic(auto)]
+
+#[cfg(test)]
+mod harness;
+#[cfg(test)]
+mod listing;

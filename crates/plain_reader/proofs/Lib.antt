@@ -1,0 +1,10 @@
+pub mod PlainForms
+pub mod Names
+pub mod Keeping
+pub mod Tags
+pub mod Contents
+pub mod Registers
+pub mod Devices
+pub mod Answering
+pub mod Loops
+pub mod Addresses

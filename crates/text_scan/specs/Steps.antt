@@ -1,0 +1,7 @@
+-- A reader on lists goes step by step, and ends with the first step that gives nothing.
+use Rattle.std.specs.Prelude.{Option, Some, None}
+
+infixl 10 ◌>>=◌
+abbrev pub ◌>>=◌ : {A B : Type 0} → Option A → (A → Option B) → Option B
+None >>= step = None
+(Some x) >>= step = step x
