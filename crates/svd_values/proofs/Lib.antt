@@ -1,0 +1,9 @@
+pub mod CallNames
+pub mod Fronts
+pub mod IndexRanges
+pub mod Lookup
+pub mod Meanings
+pub mod Ranges
+pub mod Reading
+pub mod Spelling
+pub mod WordLists
