@@ -1,0 +1,81 @@
+-- Children that are added to an element, or that replace one of its children, among the rows.
+use Rattle.std.proofs.Common.{◌≡◌, Bool, true, false, cond, not, ◌&&◌, ◌||◌, List, [], ◌∷◌, ◌++◌, map, filter, Option, None, Some, option_and_then, refl, sym, ap, ap₂, ◌∙◌, subst, append-nil, append_assoc}
+use Rattle.std.proofs.lemmas.Bool.{cond-true, cond-false}
+use Rattle.std.proofs.lemmas.List.{map-append}
+use Rattle.std.proofs.lemmas.List.Elements.{filter-append}
+use Rattle.svd_rows.specs.Edits.{planted, within, replaced, with_children, with_replaced}
+use Rattle.svd_rows.specs.Elements.{child_at, element_at, IsAbsent, IsDistinct}
+use Rattle.svd_rows.specs.Forest.{Forest, Tree, leaf, node, join, steps}
+use Rattle.svd_rows.specs.Paths.{IsSame, begins, exactly, is_within}
+use Rattle.svd_rows.specs.RowEdits.{some_pass, added, exchanged}
+use Rattle.svd_rows.specs.Rows.{Row, Said, element, states, forest_rows, rows, own, under, under_path}
+use Rattle.svd_rows.specs.Standing.{Stands}
+use Rattle.svd_rows.proofs.Finding.{map-under_path, map-under_nothing}
+use Rattle.svd_rows.proofs.Passing.{some_pass-append, some_pass-left, filter-none, filter-not_none, added-after, added-before, added-none, exchanged-before}
+use Rattle.svd_rows.proofs.Rows.{forest_rows-join}
+
+pub begins-path : {S : Type 0} (same : S → S → Bool) → IsSame same → (path below : List S) → begins (exactly same path) (path ++ below) ≡ true
+unfolding begins
+begins-path same law [] below = refl
+begins-path same law (step ∷ path) below = ap (λ b. b && begins (exactly same path) (path ++ below)) (law.itself step) ∙ begins-path same law path below
+
+module _ {S K : Type 0} where
+
+  -- the rows of the element all are at or below its path
+  part-passes : (same : S → S → Bool) → IsSame same → (path : List S) (new : List (Row S K)) (row : Row S K) (all : List (Row S K)) → added (is_within (exactly same path)) new (map (under_path path) (row ∷ all)) ≡ map (under_path path) (row ∷ all) ++ new
+  unfolding added some_pass under_path
+  part-passes same law path new row [] =
+      ap (λ b. cond b (record { path = path ++ row.path; said = row.said } ∷ (new ++ [])) (record { path = path ++ row.path; said = row.said } ∷ [])) (begins-path same law path row.path)
+      ∙ ap (λ r. record { path = path ++ row.path; said = row.said } ∷ r) (append-nil new)
+  part-passes same law path new row (next ∷ all) =
+      ap (λ b. cond (b || some_pass (is_within (exactly same path)) (map (under_path path) all))
+              (under_path path row ∷ added (is_within (exactly same path)) new (map (under_path path) (next ∷ all)))
+              (cond (begins (exactly same path) (path ++ row.path)) (under_path path row ∷ (new ++ map (under_path path) (next ∷ all))) (map (under_path path) (row ∷ (next ∷ all)))))
+        (begins-path same law path next.path)
+      ∙ ap (λ r. under_path path row ∷ r) (part-passes same law path new next all)
+
+  some-part : (same : S → S → Bool) → IsSame same → (path : List S) (row : Row S K) (all after : List (Row S K)) → some_pass (is_within (exactly same path)) (map (under_path path) (row ∷ all) ++ after) ≡ true
+  unfolding some_pass under_path
+  some-part same law path row all after =
+      ap (λ b. b || some_pass (is_within (exactly same path)) (map (under_path path) all ++ after)) (begins-path same law path row.path)
+
+  -- what is added after the rows of an element
+  pub added-part : (same : S → S → Bool) → IsSame same → (path : List S) (new : List (Row S K)) (tree part : Tree S K) → (here : Stands same path tree part) → added (is_within (exactly same path)) new (rows tree) ≡ here.before ++ ((map (under_path path) (rows part) ++ new) ++ here.after)
+  unfolding rows own
+  added-part same law path new tree part here =
+      let row : Row S K = record { path = []; said = element } in
+      let all : List (Row S K) = map (λ key. record { path = []; said = states key }) part.keys ++ forest_rows part.below in
+      ap (added (is_within (exactly same path)) new) here.stands
+      ∙ added-after (is_within (exactly same path)) new here.before (map (under_path path) (row ∷ all) ++ here.after) (some-part same law path row all here.after)
+      ∙ ap (λ r. here.before ++ r)
+          (added-before (is_within (exactly same path)) new (map (under_path path) (row ∷ all)) here.after here.elsewhere_after
+           ∙ ap (λ r. r ++ here.after) (part-passes same law path new row all))
+
+  -- children that are added to an element stand after all its rows
+  pub rows-with_children : (same : S → S → Bool) → IsSame same → (path : List S) (more : Forest S K) (tree part : Tree S K) → Stands same path tree part → rows (within (exactly same path) (with_children more) tree) ≡ added (is_within (exactly same path)) (map (under_path path) (forest_rows more)) (rows tree)
+  unfolding rows
+  rows-with_children same law path more tree part here =
+      here.edited (with_children more)
+      ∙ ap (λ r. here.before ++ (r ++ here.after))
+          (ap (map (under_path path))
+             (ap (λ r. own part.keys ++ r) (forest_rows-join part.below more)
+              ∙ sym (append_assoc (own part.keys) (forest_rows part.below) (forest_rows more)))
+           ∙ map-append (under_path path) (own part.keys ++ forest_rows part.below) (forest_rows more))
+      ∙ sym (added-part same law path (map (under_path path) (forest_rows more)) tree part here)
+
+  -- the rows at and below the path are those of the element
+  pub filter-part : (same : S → S → Bool) → IsSame same → (path : List S) (tree part : Tree S K) → Stands same path tree part → filter (is_within (exactly same path)) (rows tree) ≡ map (under_path path) (rows part)
+  unfolding under_path
+  filter-part same law path tree part here =
+      ap (filter (is_within (exactly same path))) here.stands
+      ∙ filter-append (is_within (exactly same path)) here.before (map (under_path path) (rows part) ++ here.after)
+      ∙ ap₂ (λ a b. a ++ b) (filter-none (is_within (exactly same path)) here.before here.elsewhere_before)
+          (filter-append (is_within (exactly same path)) (map (under_path path) (rows part)) here.after
+           ∙ ap₂ (λ a b. a ++ b) (all_pass (rows part)) (filter-none (is_within (exactly same path)) here.after here.elsewhere_after)
+           ∙ append-nil (map (under_path path) (rows part)))
+    where
+    all_pass : (all : List (Row S K)) → filter (is_within (exactly same path)) (map (under_path path) all) ≡ map (under_path path) all
+    all_pass [] = refl
+    all_pass (row ∷ all) =
+        ap (λ b. cond b (under_path path row ∷ filter (is_within (exactly same path)) (map (under_path path) all)) (filter (is_within (exactly same path)) (map (under_path path) all))) (begins-path same law path row.path)
+        ∙ ap (λ r. under_path path row ∷ r) (all_pass all)

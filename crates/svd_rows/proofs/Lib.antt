@@ -1,0 +1,11 @@
+pub mod Adding
+pub mod Deleting
+pub mod Exchanging
+pub mod Finding
+pub mod Keys
+pub mod Lists
+pub mod Passing
+pub mod Reading
+pub mod Renaming
+pub mod Rows
+pub mod Standing

@@ -1,0 +1,10 @@
+pub mod Edits
+pub mod Elements
+pub mod Forest
+pub mod Laws
+pub mod Paths
+pub mod Ranks
+pub mod Reading
+pub mod RowEdits
+pub mod Rows
+pub mod Standing
