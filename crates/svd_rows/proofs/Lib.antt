@@ -4,6 +4,7 @@ pub mod Exchanging
 pub mod Finding
 pub mod Keys
 pub mod Lists
+pub mod LookUps
 pub mod Passing
 pub mod Reading
 pub mod Renaming

@@ -2,6 +2,7 @@ pub mod Edits
 pub mod Elements
 pub mod Forest
 pub mod Laws
+pub mod LookUps
 pub mod Paths
 pub mod Ranks
 pub mod Reading
