@@ -1,11 +1,14 @@
 pub mod Adding
+pub mod Counting
 pub mod Deleting
 pub mod Exchanging
+pub mod Facts
 pub mod Finding
 pub mod Keys
 pub mod Lists
 pub mod LookUps
 pub mod Passing
+pub mod Places
 pub mod Reading
 pub mod Renaming
 pub mod Rows

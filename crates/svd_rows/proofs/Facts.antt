@@ -1,0 +1,152 @@
+-- What holds of each element, that siblings are distinct, and how many elements there are, after edits.
+use Rattle.std.proofs.Common.{◌≡◌, ℕ, ◌+◌, ◌<◌, Bool, true, false, cond, not, List, [], ◌∷◌, ◌++◌, map, filter, sum_by, count_by, refl, sym, ap, ap₂, ◌∙◌, subst, arith, add_assoc, zero-add}
+use Rattle.std.specs.List.{AllByRecursion, IsDistinct as AreDistinct}
+use Rattle.std.proofs.lemmas.Bool.{cond-true, cond-false}
+use Rattle.svd_rows.specs.Edits.{planted, in_children, within, replaced, renamed}
+use Rattle.svd_rows.specs.Elements.{IsAbsent, IsDistinct, Every, count}
+use Rattle.svd_rows.specs.Forest.{Forest, Tree, leaf, node, join, grow, steps}
+use Rattle.svd_rows.specs.Rows.{Row, Said, element, states, forest_rows, rows, own, under, is_element}
+
+all-append : {X : Type 0} (P : X → Type 0) (xs ys : List X) → AllByRecursion P xs → AllByRecursion P ys → AllByRecursion P (xs ++ ys)
+all-append P [] ys h k = k
+all-append P (x ∷ xs) ys h k = (h.0, all-append P xs ys h.1 k)
+
+module _ {S K : Type 0} where
+
+  -- ---- the siblings of a list
+
+  pub steps-join : (f g : Forest S K) → steps (join f g) ≡ steps f ++ steps g
+  unfolding steps join
+  steps-join leaf g = refl
+  steps-join (node s ks c n) g = ap (λ r. s ∷ r) (steps-join n g)
+
+  pub steps-in_children : (test : S → Bool) (edit : Tree S K → Tree S K) (f : Forest S K) → steps (in_children test edit f) ≡ steps f
+  unfolding steps in_children
+  steps-in_children test edit leaf = refl
+  steps-in_children test edit (node s ks c n) = ap (λ r. s ∷ r) (steps-in_children test edit n)
+
+  pub steps-renamed : (new : S → S) (f : Forest S K) → steps (renamed new f) ≡ map new (steps f)
+  unfolding steps renamed
+  steps-renamed new leaf = refl
+  steps-renamed new (node s ks c n) = ap (λ r. new s ∷ r) (steps-renamed new n)
+
+  -- ---- what holds of each element
+
+  pub Every-join : (P : S → List K → Type 0) (f g : Forest S K) → Every P f → Every P g → Every P (join f g)
+  unfolding Every join
+  Every-join P leaf g h k = k
+  Every-join P (node s ks c n) g h k = (h.0, h.1, Every-join P n g h.2 k)
+
+  pub Every-left : (P : S → List K → Type 0) (f g : Forest S K) → Every P (join f g) → Every P f
+  unfolding Every join
+  Every-left P leaf g h = tt
+  Every-left P (node s ks c n) g h = (h.0, h.1, Every-left P n g h.2)
+
+  pub Every-right : (P : S → List K → Type 0) (f g : Forest S K) → Every P (join f g) → Every P g
+  unfolding Every join
+  Every-right P leaf g h = h
+  Every-right P (node s ks c n) g h = Every-right P n g h.2
+
+  pub Every-weaker : (P Q : S → List K → Type 0) → ((step : S) (keys : List K) → P step keys → Q step keys) → (f : Forest S K) → Every P f → Every Q f
+  unfolding Every
+  Every-weaker P Q less leaf h = tt
+  Every-weaker P Q less (node s ks c n) h = (less s ks h.0, Every-weaker P Q less c h.1, Every-weaker P Q less n h.2)
+
+  -- an edit of the children that pass a test keeps what holds of each, if it does so in each child
+  pub Every-in_children : (P : S → List K → Type 0) (test : S → Bool) (edit : Tree S K → Tree S K) → ((step : S) (tree : Tree S K) → P step tree.keys → Every P tree.below → P step (edit tree).keys × Every P (edit tree).below) → (f : Forest S K) → Every P f → Every P (in_children test edit f)
+  unfolding Every in_children
+  Every-in_children P test edit each leaf h = tt
+  Every-in_children P test edit each (node s ks c n) h =
+      let here = cases (test s) (each s (record { keys = ks; below = c }) h.0 h.1) in
+      (here.0, here.1, Every-in_children P test edit each n h.2)
+    where
+    cases : (b : Bool) → P s (edit (record { keys = ks; below = c })).keys × Every P (edit (record { keys = ks; below = c })).below → P s (cond b (edit (record { keys = ks; below = c })) (record { keys = ks; below = c })).keys × Every P (cond b (edit (record { keys = ks; below = c })) (record { keys = ks; below = c })).below
+    cases true k = k
+    cases false k = (h.0, h.1)
+
+  pub Every-without : (P : S → List K → Type 0) (test : S → Bool) (f : Forest S K) → Every P f → Every P (replaced test (λ step child. leaf) f)
+  unfolding Every replaced join
+  Every-without P test leaf h = tt
+  Every-without P test (node s ks c n) h = cases (test s) (Every-without P test n h.2)
+    where
+    cases : (b : Bool) → Every P (replaced test (λ step child. leaf) n) → Every P (cond b (replaced test (λ step child. leaf) n) (node s ks c (replaced test (λ step child. leaf) n)))
+    cases true rest = rest
+    cases false rest = (h.0, h.1, rest)
+
+  -- ---- distinct siblings
+
+  -- siblings are distinct together where each step of the first is none of the others'
+  pub IsDistinct-join : (same : S → S → Bool) (f g : Forest S K) → IsDistinct same f → IsDistinct same g → AllByRecursion (λ step. IsAbsent same step g) (steps f) → IsDistinct same (join f g)
+  unfolding IsDistinct join steps
+  IsDistinct-join same leaf g h k apart = k
+  IsDistinct-join same (node s ks c n) g h k apart =
+      ( subst (λ all. AllByRecursion (λ other. same s other ≡ false) all) (sym (steps-join n g)) (all-append (λ other. same s other ≡ false) (steps n) (steps g) h.0 apart.0)
+      , h.1
+      , IsDistinct-join same n g h.2 k apart.1)
+
+  pub IsDistinct-in_children : (same : S → S → Bool) (test : S → Bool) (edit : Tree S K → Tree S K) → ((tree : Tree S K) → IsDistinct same tree.below → IsDistinct same (edit tree).below) → (f : Forest S K) → IsDistinct same f → IsDistinct same (in_children test edit f)
+  unfolding IsDistinct in_children
+  IsDistinct-in_children same test edit each leaf h = tt
+  IsDistinct-in_children same test edit each (node s ks c n) h =
+      ( subst (λ all. AllByRecursion (λ other. same s other ≡ false) all) (sym (steps-in_children test edit n)) h.0
+      , cases (test s) (each (record { keys = ks; below = c }) h.1)
+      , IsDistinct-in_children same test edit each n h.2)
+    where
+    cases : (b : Bool) → IsDistinct same (edit (record { keys = ks; below = c })).below → IsDistinct same (cond b (edit (record { keys = ks; below = c })) (record { keys = ks; below = c })).below
+    cases true k = k
+    cases false k = h.1
+
+  all-without : (P : S → Type 0) (test : S → Bool) (f : Forest S K) → AllByRecursion P (steps f) → AllByRecursion P (steps (replaced test (λ step child. leaf) f))
+  unfolding steps replaced join
+  all-without P test leaf h = tt
+  all-without P test (node s ks c n) h = cases (test s) (all-without P test n h.1)
+    where
+    cases : (b : Bool) → AllByRecursion P (steps (replaced test (λ step child. leaf) n)) → AllByRecursion P (steps (cond b (replaced test (λ step child. leaf) n) (node s ks c (replaced test (λ step child. leaf) n))))
+    cases true rest = rest
+    cases false rest = (h.0, rest)
+
+  pub IsDistinct-without : (same : S → S → Bool) (test : S → Bool) (f : Forest S K) → IsDistinct same f → IsDistinct same (replaced test (λ step child. leaf) f)
+  unfolding IsDistinct replaced join
+  IsDistinct-without same test leaf h = tt
+  IsDistinct-without same test (node s ks c n) h =
+      cases (test s) (IsDistinct-without same test n h.2) (all-without (λ other. same s other ≡ false) test n h.0)
+    where
+    cases : (b : Bool) → IsDistinct same (replaced test (λ step child. leaf) n) → IsAbsent same s (replaced test (λ step child. leaf) n) → IsDistinct same (cond b (replaced test (λ step child. leaf) n) (node s ks c (replaced test (λ step child. leaf) n)))
+    cases true rest apart = rest
+    cases false rest apart = (apart, h.1, rest)
+
+  -- ---- how many
+
+  pub count-join : (f g : Forest S K) → count (join f g) ≡ count f + count g
+  unfolding count join
+  count-join leaf g = sym (zero-add (count g))
+  count-join (node s ks c n) g = let rest = count-join n g in omega arith
+
+-- ---- the siblings that a list stands for
+
+pub steps-grow : {A S K : Type 0} (step : A → S) (tree : A → Tree S K) (xs : List A) → steps (grow step tree xs) ≡ map step xs
+unfolding steps grow
+steps-grow step tree [] = refl
+steps-grow step tree (x ∷ xs) = ap (λ r. step x ∷ r) (steps-grow step tree xs)
+
+pub grow-append : {A S K : Type 0} (step : A → S) (tree : A → Tree S K) (xs ys : List A) → grow step tree (xs ++ ys) ≡ join (grow step tree xs) (grow step tree ys)
+unfolding grow join
+grow-append step tree [] ys = refl
+grow-append step tree (x ∷ xs) ys = ap (planted (step x) (tree x)) (grow-append step tree xs ys)
+
+pub Every-grow : {A S K : Type 0} (P : S → List K → Type 0) (step : A → S) (tree : A → Tree S K) (xs : List A) → AllByRecursion (λ x. P (step x) (tree x).keys × Every P (tree x).below) xs → Every P (grow step tree xs)
+unfolding Every grow
+Every-grow P step tree [] h = tt
+Every-grow P step tree (x ∷ xs) h = (h.0.0, h.0.1, Every-grow P step tree xs h.1)
+
+pub IsDistinct-grow : {A S K : Type 0} (same : S → S → Bool) (step : A → S) (tree : A → Tree S K) (xs : List A) → AreDistinct same (map step xs) → AllByRecursion (λ x. IsDistinct same (tree x).below) xs → IsDistinct same (grow step tree xs)
+unfolding IsDistinct AreDistinct grow
+IsDistinct-grow same step tree [] h k = tt
+IsDistinct-grow same step tree (x ∷ xs) h k =
+    ( subst (λ all. AllByRecursion (λ other. same (step x) other ≡ false) all) (sym (steps-grow step tree xs)) h.0
+    , k.0
+    , IsDistinct-grow same step tree xs h.1 k.1)
+
+pub count-grow : {A S K : Type 0} (step : A → S) (tree : A → Tree S K) (x : A) (xs : List A) → count (grow step tree (x ∷ xs)) ≡ 1 + (count (tree x).below + count (grow step tree xs))
+unfolding count grow
+count-grow step tree x xs = refl
