@@ -10,9 +10,11 @@ use Rattle.svd_rows.specs.Paths.{IsSame, begins, exactly, is_within}
 use Rattle.svd_rows.specs.RowEdits.{some_pass, added, exchanged}
 use Rattle.svd_rows.specs.Rows.{Row, Said, element, states, forest_rows, rows, own, under, under_path}
 use Rattle.svd_rows.specs.Standing.{Stands}
-use Rattle.svd_rows.proofs.Finding.{map-under_path, map-under_nothing}
+use Rattle.svd_rows.proofs.Finding.{map-under_path, map-under_nothing, filter-under}
 use Rattle.svd_rows.proofs.Passing.{some_pass-append, some_pass-left, filter-none, filter-not_none, added-after, added-before, added-none, exchanged-before}
 use Rattle.svd_rows.proofs.Rows.{forest_rows-join}
+use Rattle.svd_rows.proofs.Standing.{Splits, child_at-splits, child_at-distinct, absent-rows, some_pass-own}
+use Rattle.std.specs.List.{AllByRecursion}
 
 pub begins-path : {S : Type 0} (same : S → S → Bool) → IsSame same → (path below : List S) → begins (exactly same path) (path ++ below) ≡ true
 unfolding begins
@@ -79,3 +81,43 @@ module _ {S K : Type 0} where
     all_pass (row ∷ all) =
         ap (λ b. cond b (under_path path row ∷ filter (is_within (exactly same path)) (map (under_path path) all)) (filter (is_within (exactly same path)) (map (under_path path) all))) (begins-path same law path row.path)
         ∙ ap (λ r. under_path path row ∷ r) (all_pass all)
+
+  child_at-none : (same : S → S → Bool) (step : S) (siblings : Forest S K) → child_at (same step) siblings ≡ None → IsAbsent same step siblings
+  unfolding child_at steps
+  child_at-none same step leaf e = tt
+  child_at-none same step (node s ks c n) e = cases (same step s) refl (child_at-none same step n) e
+    where
+    cases : (b : Bool) → same step s ≡ b → (child_at (same step) n ≡ None → IsAbsent same step n) → cond b (Some (record { keys = ks; below = c })) (child_at (same step) n) ≡ None → AllByRecursion (λ other. same step other ≡ false) (s ∷ steps n)
+    cases true here rest h = absurd cc
+    cases false here rest h = (here, rest h)
+
+  there : (same : S → S → Bool) (step : S) (path : List S) (siblings : Forest S K) (child : Tree S K) → Splits same step siblings child → filter (is_within (exactly same path)) (rows child) ≡ [] → filter (is_within (exactly same (step ∷ path))) (forest_rows siblings) ≡ []
+  unfolding forest_rows rows
+  there same step path siblings child split e =
+      ap (filter (is_within (exactly same (step ∷ path)))) (ap forest_rows split.is ∙ forest_rows-join split.left (planted step child split.right))
+      ∙ filter-append (is_within (exactly same (step ∷ path))) (forest_rows split.left) (map (under step) (own child.keys ++ forest_rows child.below) ++ forest_rows split.right)
+      ∙ ap₂ (λ a b. a ++ b) (filter-none (is_within (exactly same (step ∷ path))) (forest_rows split.left) (absent-rows same step path split.left split.absent_left))
+          (filter-append (is_within (exactly same (step ∷ path))) (map (under step) (own child.keys ++ forest_rows child.below)) (forest_rows split.right)
+           ∙ ap₂ (λ a b. a ++ b)
+               (filter-under (same step) (exactly same path) step (own child.keys ++ forest_rows child.below)
+                ∙ ap (λ r. map (under step) (cond (same step step) r [])) e
+                ∙ nothing (same step step))
+               (filter-none (is_within (exactly same (step ∷ path))) (forest_rows split.right) (absent-rows same step path split.right split.absent_right)))
+    where
+    nothing : (b : Bool) → map (under {K = K} step) (cond b [] []) ≡ []
+    nothing true = refl
+    nothing false = refl
+
+  -- a path that leads to no element has no rows
+  pub filter-none_there : (same : S → S → Bool) → IsSame same → (path : List S) (tree : Tree S K) → IsDistinct same tree.below → element_at (exactly same path) tree ≡ None → filter (is_within (exactly same path)) (rows tree) ≡ []
+  unfolding element_at rows
+  filter-none_there same law [] tree distinct e = absurd cc
+  filter-none_there same law (step ∷ path) tree distinct e =
+      filter-append (is_within (exactly same (step ∷ path))) (own tree.keys) (forest_rows tree.below)
+      ∙ ap₂ (λ a b. a ++ b)
+          (filter-none (is_within (exactly same (step ∷ path))) (own tree.keys) (some_pass-own (same step) (exactly same path) tree.keys))
+          (cases (child_at (same step) tree.below) refl e (λ child. filter-none_there same law path child))
+    where
+    cases : (child : Option (Tree S K)) → child_at (same step) tree.below ≡ child → option_and_then (element_at (exactly same path)) child ≡ None → ((child : Tree S K) → IsDistinct same child.below → element_at (exactly same path) child ≡ None → filter (is_within (exactly same path)) (rows child) ≡ []) → filter (is_within (exactly same (step ∷ path))) (forest_rows tree.below) ≡ []
+    cases None at h rest = filter-none (is_within (exactly same (step ∷ path))) (forest_rows tree.below) (absent-rows same step path tree.below (child_at-none same step tree.below at))
+    cases (Some child) at h rest = there same step path tree.below child (child_at-splits same law step tree.below child distinct at) (rest child (child_at-distinct same (same step) tree.below child distinct at) h)

@@ -51,7 +51,7 @@ module _ {S K : Type 0} where
           absent_right = found.absent_right;
         }
 
-  child_at-distinct : (same : S → S → Bool) (test : S → Bool) (siblings : Forest S K) (child : Tree S K) → IsDistinct same siblings → child_at test siblings ≡ Some child → IsDistinct same child.below
+  pub child_at-distinct : (same : S → S → Bool) (test : S → Bool) (siblings : Forest S K) (child : Tree S K) → IsDistinct same siblings → child_at test siblings ≡ Some child → IsDistinct same child.below
   unfolding child_at IsDistinct
   child_at-distinct same test leaf child distinct e = absurd cc
   child_at-distinct same test (node s ks c n) child distinct e =

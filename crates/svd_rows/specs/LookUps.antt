@@ -1,7 +1,7 @@
 -- What a flat list of rows tells of an element: what stands at or below its path, its keys, its children.
-use Rattle.std.specs.Prelude.{Bool, true, false, cond, List, [], ◌∷◌, map, filter, filter_map, length, drop, Option, None, Some}
-use Rattle.svd_rows.specs.Paths.{exactly, is_within}
-use Rattle.svd_rows.specs.Rows.{Row, Said, element, states}
+use Rattle.std.specs.Prelude.{Bool, true, false, cond, ◌&&◌, List, [], ◌∷◌, map, filter, filter_map, length, drop, Option, None, Some}
+use Rattle.svd_rows.specs.Paths.{exactly, is_within, is_at}
+use Rattle.svd_rows.specs.Rows.{Row, Said, element, states, is_element}
 
 -- the row as it is seen from this many steps further down
 abbrev pub seen_below : {S K : Type 0} → List S → Row S K → Row S K
@@ -31,3 +31,7 @@ keys_of all = filter_map (λ row. top_key row.path row.said) all
 -- the steps of its children, in document order
 unfoldable pub children_of : {S K : Type 0} → List (Row S K) → List S
 children_of all = filter_map (λ row. child_step row.path row.said) all
+
+-- the paths of the elements whose steps pass the tests one by one, in document order
+unfoldable pub element_paths : {S K : Type 0} → List (S → Bool) → List (Row S K) → List (List S)
+element_paths tests all = map (λ row. row.path) (filter (λ row. is_element row && is_at tests row) all)
