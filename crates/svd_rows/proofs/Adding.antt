@@ -22,7 +22,6 @@ begins-path same law [] below = refl
 begins-path same law (step ∷ path) below = ap (λ b. b && begins (exactly same path) (path ++ below)) (law.itself step) ∙ begins-path same law path below
 
 module _ {S K : Type 0} where
-
   -- the rows of the element all are at or below its path
   part-passes : (same : S → S → Bool) → IsSame same → (path : List S) (new : List (Row S K)) (row : Row S K) (all : List (Row S K)) → added (is_within (exactly same path)) new (map (under_path path) (row ∷ all)) ≡ map (under_path path) (row ∷ all) ++ new
   unfolding added some_pass under_path
@@ -31,9 +30,9 @@ module _ {S K : Type 0} where
       ∙ ap (λ r. record { path = path ++ row.path; said = row.said } ∷ r) (append-nil new)
   part-passes same law path new row (next ∷ all) =
       ap (λ b. cond (b || some_pass (is_within (exactly same path)) (map (under_path path) all))
-              (under_path path row ∷ added (is_within (exactly same path)) new (map (under_path path) (next ∷ all)))
-              (cond (begins (exactly same path) (path ++ row.path)) (under_path path row ∷ (new ++ map (under_path path) (next ∷ all))) (map (under_path path) (row ∷ (next ∷ all)))))
-        (begins-path same law path next.path)
+      (under_path path row ∷ added (is_within (exactly same path)) new (map (under_path path) (next ∷ all)))
+      (cond (begins (exactly same path) (path ++ row.path)) (under_path path row ∷ (new ++ map (under_path path) (next ∷ all))) (map (under_path path) (row ∷ (next ∷ all)))))
+      (begins-path same law path next.path)
       ∙ ap (λ r. under_path path row ∷ r) (part-passes same law path new next all)
 
   some-part : (same : S → S → Bool) → IsSame same → (path : List S) (row : Row S K) (all after : List (Row S K)) → some_pass (is_within (exactly same path)) (map (under_path path) (row ∷ all) ++ after) ≡ true
@@ -50,8 +49,8 @@ module _ {S K : Type 0} where
       ap (added (is_within (exactly same path)) new) here.stands
       ∙ added-after (is_within (exactly same path)) new here.before (map (under_path path) (row ∷ all) ++ here.after) (some-part same law path row all here.after)
       ∙ ap (λ r. here.before ++ r)
-          (added-before (is_within (exactly same path)) new (map (under_path path) (row ∷ all)) here.after here.elsewhere_after
-           ∙ ap (λ r. r ++ here.after) (part-passes same law path new row all))
+      (added-before (is_within (exactly same path)) new (map (under_path path) (row ∷ all)) here.after here.elsewhere_after
+      ∙ ap (λ r. r ++ here.after) (part-passes same law path new row all))
 
   -- children that are added to an element stand after all its rows
   pub rows-with_children : (same : S → S → Bool) → IsSame same → (path : List S) (more : Forest S K) (tree part : Tree S K) → Stands same path tree part → rows (within (exactly same path) (with_children more) tree) ≡ added (is_within (exactly same path)) (map (under_path path) (forest_rows more)) (rows tree)
@@ -59,10 +58,10 @@ module _ {S K : Type 0} where
   rows-with_children same law path more tree part here =
       here.edited (with_children more)
       ∙ ap (λ r. here.before ++ (r ++ here.after))
-          (ap (map (under_path path))
-             (ap (λ r. own part.keys ++ r) (forest_rows-join part.below more)
-              ∙ sym (append_assoc (own part.keys) (forest_rows part.below) (forest_rows more)))
-           ∙ map-append (under_path path) (own part.keys ++ forest_rows part.below) (forest_rows more))
+      (ap (map (under_path path))
+      (ap (λ r. own part.keys ++ r) (forest_rows-join part.below more)
+      ∙ sym (append_assoc (own part.keys) (forest_rows part.below) (forest_rows more)))
+      ∙ map-append (under_path path) (own part.keys ++ forest_rows part.below) (forest_rows more))
       ∙ sym (added-part same law path (map (under_path path) (forest_rows more)) tree part here)
 
   -- the rows at and below the path are those of the element
@@ -72,24 +71,24 @@ module _ {S K : Type 0} where
       ap (filter (is_within (exactly same path))) here.stands
       ∙ filter-append (is_within (exactly same path)) here.before (map (under_path path) (rows part) ++ here.after)
       ∙ ap₂ (λ a b. a ++ b) (filter-none (is_within (exactly same path)) here.before here.elsewhere_before)
-          (filter-append (is_within (exactly same path)) (map (under_path path) (rows part)) here.after
-           ∙ ap₂ (λ a b. a ++ b) (all_pass (rows part)) (filter-none (is_within (exactly same path)) here.after here.elsewhere_after)
-           ∙ append-nil (map (under_path path) (rows part)))
+      (filter-append (is_within (exactly same path)) (map (under_path path) (rows part)) here.after
+      ∙ ap₂ (λ a b. a ++ b) (all_pass (rows part)) (filter-none (is_within (exactly same path)) here.after here.elsewhere_after)
+      ∙ append-nil (map (under_path path) (rows part)))
     where
-    all_pass : (all : List (Row S K)) → filter (is_within (exactly same path)) (map (under_path path) all) ≡ map (under_path path) all
-    all_pass [] = refl
-    all_pass (row ∷ all) =
-        ap (λ b. cond b (under_path path row ∷ filter (is_within (exactly same path)) (map (under_path path) all)) (filter (is_within (exactly same path)) (map (under_path path) all))) (begins-path same law path row.path)
-        ∙ ap (λ r. under_path path row ∷ r) (all_pass all)
+      all_pass : (all : List (Row S K)) → filter (is_within (exactly same path)) (map (under_path path) all) ≡ map (under_path path) all
+      all_pass [] = refl
+      all_pass (row ∷ all) =
+          ap (λ b. cond b (under_path path row ∷ filter (is_within (exactly same path)) (map (under_path path) all)) (filter (is_within (exactly same path)) (map (under_path path) all))) (begins-path same law path row.path)
+          ∙ ap (λ r. under_path path row ∷ r) (all_pass all)
 
   child_at-none : (same : S → S → Bool) (step : S) (siblings : Forest S K) → child_at (same step) siblings ≡ None → IsAbsent same step siblings
   unfolding child_at steps
   child_at-none same step leaf e = tt
   child_at-none same step (node s ks c n) e = cases (same step s) refl (child_at-none same step n) e
     where
-    cases : (b : Bool) → same step s ≡ b → (child_at (same step) n ≡ None → IsAbsent same step n) → cond b (Some (record { keys = ks; below = c })) (child_at (same step) n) ≡ None → AllByRecursion (λ other. same step other ≡ false) (s ∷ steps n)
-    cases true here rest h = absurd cc
-    cases false here rest h = (here, rest h)
+      cases : (b : Bool) → same step s ≡ b → (child_at (same step) n ≡ None → IsAbsent same step n) → cond b (Some (record { keys = ks; below = c })) (child_at (same step) n) ≡ None → AllByRecursion (λ other. same step other ≡ false) (s ∷ steps n)
+      cases true here rest h = absurd cc
+      cases false here rest h = (here, rest h)
 
   there : (same : S → S → Bool) (step : S) (path : List S) (siblings : Forest S K) (child : Tree S K) → Splits same step siblings child → filter (is_within (exactly same path)) (rows child) ≡ [] → filter (is_within (exactly same (step ∷ path))) (forest_rows siblings) ≡ []
   unfolding forest_rows rows
@@ -97,16 +96,16 @@ module _ {S K : Type 0} where
       ap (filter (is_within (exactly same (step ∷ path)))) (ap forest_rows split.is ∙ forest_rows-join split.left (planted step child split.right))
       ∙ filter-append (is_within (exactly same (step ∷ path))) (forest_rows split.left) (map (under step) (own child.keys ++ forest_rows child.below) ++ forest_rows split.right)
       ∙ ap₂ (λ a b. a ++ b) (filter-none (is_within (exactly same (step ∷ path))) (forest_rows split.left) (absent-rows same step path split.left split.absent_left))
-          (filter-append (is_within (exactly same (step ∷ path))) (map (under step) (own child.keys ++ forest_rows child.below)) (forest_rows split.right)
-           ∙ ap₂ (λ a b. a ++ b)
-               (filter-under (same step) (exactly same path) step (own child.keys ++ forest_rows child.below)
-                ∙ ap (λ r. map (under step) (cond (same step step) r [])) e
-                ∙ nothing (same step step))
-               (filter-none (is_within (exactly same (step ∷ path))) (forest_rows split.right) (absent-rows same step path split.right split.absent_right)))
+      (filter-append (is_within (exactly same (step ∷ path))) (map (under step) (own child.keys ++ forest_rows child.below)) (forest_rows split.right)
+      ∙ ap₂ (λ a b. a ++ b)
+      (filter-under (same step) (exactly same path) step (own child.keys ++ forest_rows child.below)
+      ∙ ap (λ r. map (under step) (cond (same step step) r [])) e
+      ∙ nothing (same step step))
+      (filter-none (is_within (exactly same (step ∷ path))) (forest_rows split.right) (absent-rows same step path split.right split.absent_right)))
     where
-    nothing : (b : Bool) → map (under {K = K} step) (cond b [] []) ≡ []
-    nothing true = refl
-    nothing false = refl
+      nothing : (b : Bool) → map (under {K = K} step) (cond b [] []) ≡ []
+      nothing true = refl
+      nothing false = refl
 
   -- a path that leads to no element has no rows
   pub filter-none_there : (same : S → S → Bool) → IsSame same → (path : List S) (tree : Tree S K) → IsDistinct same tree.below → element_at (exactly same path) tree ≡ None → filter (is_within (exactly same path)) (rows tree) ≡ []
@@ -115,9 +114,9 @@ module _ {S K : Type 0} where
   filter-none_there same law (step ∷ path) tree distinct e =
       filter-append (is_within (exactly same (step ∷ path))) (own tree.keys) (forest_rows tree.below)
       ∙ ap₂ (λ a b. a ++ b)
-          (filter-none (is_within (exactly same (step ∷ path))) (own tree.keys) (some_pass-own (same step) (exactly same path) tree.keys))
-          (cases (child_at (same step) tree.below) refl e (λ child. filter-none_there same law path child))
+      (filter-none (is_within (exactly same (step ∷ path))) (own tree.keys) (some_pass-own (same step) (exactly same path) tree.keys))
+      (cases (child_at (same step) tree.below) refl e (λ child. filter-none_there same law path child))
     where
-    cases : (child : Option (Tree S K)) → child_at (same step) tree.below ≡ child → option_and_then (element_at (exactly same path)) child ≡ None → ((child : Tree S K) → IsDistinct same child.below → element_at (exactly same path) child ≡ None → filter (is_within (exactly same path)) (rows child) ≡ []) → filter (is_within (exactly same (step ∷ path))) (forest_rows tree.below) ≡ []
-    cases None at h rest = filter-none (is_within (exactly same (step ∷ path))) (forest_rows tree.below) (absent-rows same step path tree.below (child_at-none same step tree.below at))
-    cases (Some child) at h rest = there same step path tree.below child (child_at-splits same law step tree.below child distinct at) (rest child (child_at-distinct same (same step) tree.below child distinct at) h)
+      cases : (child : Option (Tree S K)) → child_at (same step) tree.below ≡ child → option_and_then (element_at (exactly same path)) child ≡ None → ((child : Tree S K) → IsDistinct same child.below → element_at (exactly same path) child ≡ None → filter (is_within (exactly same path)) (rows child) ≡ []) → filter (is_within (exactly same (step ∷ path))) (forest_rows tree.below) ≡ []
+      cases None at h rest = filter-none (is_within (exactly same (step ∷ path))) (forest_rows tree.below) (absent-rows same step path tree.below (child_at-none same step tree.below at))
+      cases (Some child) at h rest = there same step path tree.below child (child_at-splits same law step tree.below child distinct at) (rest child (child_at-distinct same (same step) tree.below child distinct at) h)

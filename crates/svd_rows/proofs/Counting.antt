@@ -11,11 +11,10 @@ own_elements : (S : Type 0) {K : Type 0} (keys : List K) → filter (is_element 
 unfolding own is_element
 own_elements S keys =
     ap (λ r. record { path = []; said = element } ∷ r)
-      (filter-map is_element (λ key. record { path = []; said = states key }) keys
-       ∙ ap (map (λ key. record { path = []; said = states key })) (filter_none (λ key. false) (λ key. refl) keys))
+    (filter-map is_element (λ key. record { path = []; said = states key }) keys
+    ∙ ap (map (λ key. record { path = []; said = states key })) (filter_none (λ key. false) (λ key. refl) keys))
 
 module _ {S K : Type 0} where
-
   elements-under : (s : S) (all : List (Row S K)) → filter is_element (map (under s) all) ≡ map (under s) (filter is_element all)
   unfolding under is_element
   elements-under s all = filter-map is_element (under s) all
@@ -27,17 +26,18 @@ module _ {S K : Type 0} where
       ap length (filter-append is_element (map (under s) (own ks ++ forest_rows c)) (forest_rows n))
       ∙ length-append (filter is_element (map (under s) (own ks ++ forest_rows c))) (filter is_element (forest_rows n))
       ∙ ap₂ (λ a b. a + b)
-          (ap length (elements-under s (own ks ++ forest_rows c))
-           ∙ length-map (filter is_element (own ks ++ forest_rows c)) (under s)
-           ∙ ap length (filter-append is_element (own ks) (forest_rows c) ∙ ap (λ r. r ++ filter is_element (forest_rows c)) (own_elements S ks))
-           ∙ added_one (filter is_element (forest_rows c)) (count c) (length-elements c))
-          (length-elements n)
+      (ap length (elements-under s (own ks ++ forest_rows c))
+      ∙ length-map (filter is_element (own ks ++ forest_rows c)) (under s)
+      ∙ ap length (filter-append is_element (own ks) (forest_rows c) ∙ ap (λ r. r ++ filter is_element (forest_rows c)) (own_elements S ks))
+      ∙ added_one (filter is_element (forest_rows c)) (count c) (length-elements c))
+      (length-elements n)
       ∙ sums (count c) (count n)
     where
-    added_one : (all : List (Row S K)) (n : ℕ) → length all ≡ n → length (record { path = []; said = element } ∷ all) ≡ 1 + n
-    added_one all n e = omega (arith, e)
-    sums : (a b : ℕ) → (1 + a) + b ≡ 1 + (a + b)
-    sums a b = omega arith
+      added_one : (all : List (Row S K)) (n : ℕ) → length all ≡ n → length (record { path = []; said = element } ∷ all) ≡ 1 + n
+      added_one all n e = omega (arith, e)
+
+      sums : (a b : ℕ) → (1 + a) + b ≡ 1 + (a + b)
+      sums a b = omega arith
 
   -- each element of a tree has one row that says that it is there
   pub count-rows : (tree : Tree S K) → length (filter is_element (rows tree)) ≡ 1 + count tree.below
@@ -46,5 +46,5 @@ module _ {S K : Type 0} where
       ap length (filter-append is_element (own tree.keys) (forest_rows tree.below) ∙ ap (λ r. r ++ filter is_element (forest_rows tree.below)) (own_elements S tree.keys))
       ∙ added_one (filter is_element (forest_rows tree.below)) (count tree.below) (length-elements tree.below)
     where
-    added_one : (all : List (Row S K)) (n : ℕ) → length all ≡ n → length (record { path = []; said = element } ∷ all) ≡ 1 + n
-    added_one all n e = omega (arith, e)
+      added_one : (all : List (Row S K)) (n : ℕ) → length all ≡ n → length (record { path = []; said = element } ∷ all) ≡ 1 + n
+      added_one all n e = omega (arith, e)

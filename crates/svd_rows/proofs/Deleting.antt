@@ -21,22 +21,21 @@ own-filter : {S K : Type 0} (q : List S → Bool) → q [] ≡ true → (keys : 
 unfolding own
 own-filter q here keys =
     ap (λ b. cond b (record { path = []; said = element } ∷ filter (λ row. q row.path) (map (λ key. record { path = []; said = states key }) keys))
-            (filter (λ row. q row.path) (map (λ key. record { path = []; said = states key }) keys))) here
+    (filter (λ row. q row.path) (map (λ key. record { path = []; said = states key }) keys))) here
     ∙ ap (λ r. record { path = []; said = element } ∷ r)
-        (filter-map (λ row. q row.path) (λ key. record { path = []; said = states key }) keys
-         ∙ ap (map (λ key. record { path = []; said = states key })) (filter_all (λ key. q []) (λ key. here) keys))
+    (filter-map (λ row. q row.path) (λ key. record { path = []; said = states key }) keys
+    ∙ ap (map (λ key. record { path = []; said = states key })) (filter_all (λ key. q []) (λ key. here) keys))
 
 stays-begins : {S : Type 0} (test : S → Bool) (tests : List (S → Bool)) (path : List S) → stays test (λ rest. not (begins tests rest)) path ≡ not (begins (test ∷ tests) path)
 unfolding stays begins
 stays-begins test tests [] = refl
 stays-begins test tests (s ∷ path) = cases (test s) (begins tests path)
   where
-  cases : (b x : Bool) → cond b (not x) true ≡ not (b && x)
-  cases true x = refl
-  cases false x = refl
+    cases : (b x : Bool) → cond b (not x) true ≡ not (b && x)
+    cases true x = refl
+    cases false x = refl
 
 module _ {S K : Type 0} where
-
   here-filter : (test : S → Bool) (kept : List S → Bool) (s : S) (all : List (Row S K)) → filter (λ row. stays test kept row.path) (map (under s) all) ≡ map (under s) (filter (λ row. cond (test s) (kept row.path) true) all)
   unfolding stays under
   here-filter test kept s all = filter-map (λ row. stays test kept row.path) (under s) all
@@ -50,7 +49,7 @@ module _ {S K : Type 0} where
   in_children-filter test edit kept each leaf = refl
   in_children-filter test edit kept each (node s ks c n) =
       ap₂ (λ a b. a ++ b) (head-filter edit kept each s (test s) (record { keys = ks; below = c }) ∙ sym (here-filter test kept s (rows (record { keys = ks; below = c }))))
-        (in_children-filter test edit kept each n)
+      (in_children-filter test edit kept each n)
       ∙ sym (filter-append (λ row. stays test kept row.path) (map (under s) (rows (record { keys = ks; below = c }))) (forest_rows n))
 
   -- where the test leads to no row of the element, its rows stay; where it does, they go
@@ -58,9 +57,9 @@ module _ {S K : Type 0} where
   unfolding under begins
   gone test s all = filter-map (λ row. not (is_within (test ∷ []) row)) (under s) all ∙ ap (map (under s)) (cases (test s))
     where
-    cases : (b : Bool) → filter (λ (row : Row S K). not (b && true)) all ≡ cond b [] all
-    cases true = filter_none (λ row. false) (λ row. refl) all
-    cases false = filter_all (λ row. true) (λ row. refl) all
+      cases : (b : Bool) → filter (λ (row : Row S K). not (b && true)) all ≡ cond b [] all
+      cases true = filter_none (λ row. false) (λ row. refl) all
+      cases false = filter_all (λ row. true) (λ row. refl) all
 
   replaced-filter : (test : S → Bool) (siblings : Forest S K) → forest_rows (replaced test (λ step child. leaf) siblings) ≡ filter (λ row. not (is_within (test ∷ []) row)) (forest_rows siblings)
   unfolding replaced forest_rows join
@@ -70,9 +69,9 @@ module _ {S K : Type 0} where
       ∙ ap₂ (λ a b. a ++ b) (sym (gone test s (own ks ++ forest_rows c))) (replaced-filter test n)
       ∙ sym (filter-append (λ row. not (is_within (test ∷ []) row)) (map (under s) (own ks ++ forest_rows c)) (forest_rows n))
     where
-    cases : (b : Bool) → forest_rows (cond b (replaced test (λ step child. leaf) n) (node s ks c (replaced test (λ step child. leaf) n))) ≡ map (under s) (cond b [] (own ks ++ forest_rows c)) ++ forest_rows (replaced test (λ step child. leaf) n)
-    cases true = refl
-    cases false = refl
+      cases : (b : Bool) → forest_rows (cond b (replaced test (λ step child. leaf) n) (node s ks c (replaced test (λ step child. leaf) n))) ≡ map (under s) (cond b [] (own ks ++ forest_rows c)) ++ forest_rows (replaced test (λ step child. leaf) n)
+      cases true = refl
+      cases false = refl
 
   -- the rows of a tree from which the children that pass the test are taken, at each element to which the
   -- tests lead, are those that aren't at or below such a child
@@ -83,6 +82,6 @@ module _ {S K : Type 0} where
       ∙ sym (filter-append (λ row. not (is_within (test ∷ []) row)) (own tree.keys) (forest_rows tree.below))
   rows-without_children (first ∷ tests) test tree =
       ap₂ (λ a b. a ++ b) (sym (own-filter (λ path. not (begins (first ∷ (tests ++ test ∷ [])) path)) refl tree.keys))
-        (in_children-filter first (within tests (without_children test)) (λ rest. not (begins (tests ++ test ∷ []) rest)) (rows-without_children tests test) tree.below
-         ∙ filter_agree (λ row. stays first (λ rest. not (begins (tests ++ test ∷ []) rest)) row.path) (λ row. not (is_within (first ∷ (tests ++ test ∷ [])) row)) (λ row. stays-begins first (tests ++ test ∷ []) row.path) (forest_rows tree.below))
+      (in_children-filter first (within tests (without_children test)) (λ rest. not (begins (tests ++ test ∷ []) rest)) (rows-without_children tests test) tree.below
+      ∙ filter_agree (λ row. stays first (λ rest. not (begins (tests ++ test ∷ []) rest)) row.path) (λ row. not (is_within (first ∷ (tests ++ test ∷ [])) row)) (λ row. stays-begins first (tests ++ test ∷ []) row.path) (forest_rows tree.below))
       ∙ sym (filter-append (λ row. not (is_within (first ∷ (tests ++ test ∷ [])) row)) (own tree.keys) (forest_rows tree.below))

@@ -39,9 +39,9 @@ begins-longer [] more path e = absurd cc
 begins-longer (test ∷ tests) more [] e = refl
 begins-longer (test ∷ tests) more (step ∷ path) e = cases (test step) (begins-longer tests more path) e
   where
-  cases : (b : Bool) → (begins tests path ≡ false → begins (tests ++ more) path ≡ false) → (b && begins tests path) ≡ false → (b && begins (tests ++ more) path) ≡ false
-  cases true rest h = rest h
-  cases false rest h = refl
+    cases : (b : Bool) → (begins tests path ≡ false → begins (tests ++ more) path ≡ false) → (b && begins tests path) ≡ false → (b && begins (tests ++ more) path) ≡ false
+    cases true rest h = rest h
+    cases false rest h = refl
 
 -- behind a path, the tests of the path are passed
 pub begins-behind : {S : Type 0} (same : S → S → Bool) → IsSame same → (path : List S) (more : List (S → Bool)) (below : List S) → begins (exactly same path ++ more) (path ++ below) ≡ begins more below
@@ -60,13 +60,12 @@ unfolding exchanged
 exchanged-middle test new before x xs after none here all none_after =
     exchanged-before test new before ((x ∷ xs) ++ after) none
     ∙ ap (λ r. before ++ r)
-        (cond-true (test x) (new ++ filter (λ y. not (test y)) (xs ++ after)) (x ∷ exchanged test new (xs ++ after)) here
-         ∙ ap (λ r. new ++ r)
-             (filter-append (λ y. not (test y)) xs after
-              ∙ ap₂ (λ a b. a ++ b) all (filter-not_none test after none_after)))
+    (cond-true (test x) (new ++ filter (λ y. not (test y)) (xs ++ after)) (x ∷ exchanged test new (xs ++ after)) here
+    ∙ ap (λ r. new ++ r)
+    (filter-append (λ y. not (test y)) xs after
+    ∙ ap₂ (λ a b. a ++ b) all (filter-not_none test after none_after)))
 
 module _ {S K : Type 0} where
-
   replaced-absent : (same : S → S → Bool) (step : S) (made : S → Tree S K → Forest S K) (siblings : Forest S K) → IsAbsent same step siblings → replaced (same step) made siblings ≡ siblings
   unfolding replaced steps
   replaced-absent same step made leaf absent = refl
@@ -102,7 +101,7 @@ module _ {S K : Type 0} where
   child-rows same law path step [] = refl
   child-rows same law path step (row ∷ all) =
       cond-false (not (begins (exactly same path ++ same step ∷ []) (path ++ (step ∷ row.path)))) (under_path path (under step row) ∷ filter (λ row. not (is_within (exactly same path ++ same step ∷ []) row)) (map (under_path path) (map (under step) all))) (filter (λ row. not (is_within (exactly same path ++ same step ∷ []) row)) (map (under_path path) (map (under step) all)))
-        (ap not (begins-behind same law path (same step ∷ []) (step ∷ row.path) ∙ ap (λ b. b && true) (law.itself step)))
+      (ap not (begins-behind same law path (same step ∷ []) (step ∷ row.path) ∙ ap (λ b. b && true) (law.itself step)))
       ∙ child-rows same law path step all
 
   arranged : (before keys left new right after : List (Row S K)) → before ++ ((keys ++ (left ++ (new ++ right))) ++ after) ≡ (before ++ (keys ++ left)) ++ (new ++ (right ++ after))
@@ -112,43 +111,48 @@ module _ {S K : Type 0} where
   parted path keys left new right =
       map-append (under_path path) (own keys) (left ++ (new ++ right))
       ∙ ap (λ r. map (under_path path) (own keys) ++ r)
-          (map-append (under_path path) left (new ++ right)
-           ∙ ap (λ r. map (under_path path) left ++ r) (map-append (under_path path) new right))
+      (map-append (under_path path) left (new ++ right)
+      ∙ ap (λ r. map (under_path path) left ++ r) (map-append (under_path path) new right))
 
   exchanged-child : (same : S → S → Bool) → IsSame same → (path : List S) (step : S) (new : List (Row S K)) (tree part child : Tree S K) → (here : Stands same path tree part) → (split : Splits same step part.below child) → exchanged (is_within (exactly same path ++ same step ∷ [])) new (rows tree) ≡ (here.before ++ (map (under_path path) (own part.keys) ++ map (under_path path) (forest_rows split.left))) ++ (new ++ (map (under_path path) (forest_rows split.right) ++ here.after))
   unfolding rows forest_rows own under under_path
   exchanged-child same law path step new tree part child here split =
       ap (exchanged tests new)
-        (here.stands
-         ∙ ap (λ r. here.before ++ (map (under_path path) (own part.keys ++ r) ++ here.after))
-             (ap forest_rows split.is ∙ forest_rows-join split.left (planted step child split.right))
-         ∙ ap (λ r. here.before ++ (r ++ here.after)) (parted path part.keys (forest_rows split.left) (map (under step) (rows child)) (forest_rows split.right))
-         ∙ arranged here.before keys left (map (under_path path) (map (under step) (rows child))) right here.after)
+      (here.stands
+      ∙ ap (λ r. here.before ++ (map (under_path path) (own part.keys ++ r) ++ here.after))
+      (ap forest_rows split.is ∙ forest_rows-join split.left (planted step child split.right))
+      ∙ ap (λ r. here.before ++ (r ++ here.after)) (parted path part.keys (forest_rows split.left) (map (under step) (rows child)) (forest_rows split.right))
+      ∙ arranged here.before keys left (map (under_path path) (map (under step) (rows child))) right here.after)
       ∙ exchanged-middle tests new (here.before ++ (keys ++ left))
-          (under_path path (under step (record { path = []; said = element })))
-          (map (under_path path) (map (under step) (map (λ key. record { path = []; said = states key }) child.keys ++ forest_rows child.below)))
-          (right ++ here.after)
-          (some_pass-append tests here.before (keys ++ left) (elsewhere here.before here.elsewhere_before)
-           ∙ some_pass-append tests keys left (behind same law path (same step ∷ []) (own part.keys) ∙ some_pass-own (same step) [] part.keys)
-           ∙ behind same law path (same step ∷ []) (forest_rows split.left)
-           ∙ absent-rows same step [] split.left split.absent_left)
-          (begins-behind same law path (same step ∷ []) (step ∷ []) ∙ is_child)
-          (child-rows same law path step (map (λ key. record { path = []; said = states key }) child.keys ++ forest_rows child.below))
-          (some_pass-append tests right here.after (behind same law path (same step ∷ []) (forest_rows split.right) ∙ absent-rows same step [] split.right split.absent_right)
-           ∙ elsewhere here.after here.elsewhere_after)
+      (under_path path (under step (record { path = []; said = element })))
+      (map (under_path path) (map (under step) (map (λ key. record { path = []; said = states key }) child.keys ++ forest_rows child.below)))
+      (right ++ here.after)
+      (some_pass-append tests here.before (keys ++ left) (elsewhere here.before here.elsewhere_before)
+      ∙ some_pass-append tests keys left (behind same law path (same step ∷ []) (own part.keys) ∙ some_pass-own (same step) [] part.keys)
+      ∙ behind same law path (same step ∷ []) (forest_rows split.left)
+      ∙ absent-rows same step [] split.left split.absent_left)
+      (begins-behind same law path (same step ∷ []) (step ∷ []) ∙ is_child)
+      (child-rows same law path step (map (λ key. record { path = []; said = states key }) child.keys ++ forest_rows child.below))
+      (some_pass-append tests right here.after (behind same law path (same step ∷ []) (forest_rows split.right) ∙ absent-rows same step [] split.right split.absent_right)
+      ∙ elsewhere here.after here.elsewhere_after)
     where
-    tests : Row S K → Bool
-    tests = is_within (exactly same path ++ same step ∷ [])
-    keys : List (Row S K)
-    keys = map (under_path path) (own part.keys)
-    left : List (Row S K)
-    left = map (under_path path) (forest_rows split.left)
-    right : List (Row S K)
-    right = map (under_path path) (forest_rows split.right)
-    elsewhere : (all : List (Row S K)) → some_pass (is_within (exactly same path)) all ≡ false → some_pass tests all ≡ false
-    elsewhere all e = some_pass-weaker (is_within (exactly same path)) tests (λ row. begins-longer (exactly same path) (same step ∷ []) row.path) all e
-    is_child : begins (same step ∷ []) (step ∷ []) ≡ true
-    is_child = child-begins same law step
+      tests : Row S K → Bool
+      tests = is_within (exactly same path ++ same step ∷ [])
+
+      keys : List (Row S K)
+      keys = map (under_path path) (own part.keys)
+
+      left : List (Row S K)
+      left = map (under_path path) (forest_rows split.left)
+
+      right : List (Row S K)
+      right = map (under_path path) (forest_rows split.right)
+
+      elsewhere : (all : List (Row S K)) → some_pass (is_within (exactly same path)) all ≡ false → some_pass tests all ≡ false
+      elsewhere all e = some_pass-weaker (is_within (exactly same path)) tests (λ row. begins-longer (exactly same path) (same step ∷ []) row.path) all e
+
+      is_child : begins (same step ∷ []) (step ∷ []) ≡ true
+      is_child = child-begins same law step
 
   -- elements that replace a child stand where its rows stood
   pub rows-with_replaced : (same : S → S → Bool) → IsSame same → (path : List S) (step : S) (made : S → Tree S K → Forest S K) (tree part child : Tree S K) → Stands same path tree part → Splits same step part.below child → rows (within (exactly same path) (with_replaced (same step) made) tree) ≡ exchanged (is_within (exactly same path ++ same step ∷ [])) (map (under_path path) (forest_rows (made step child))) (rows tree)
@@ -156,11 +160,11 @@ module _ {S K : Type 0} where
   rows-with_replaced same law path step made tree part child here split =
       here.edited (with_replaced (same step) made)
       ∙ ap (λ f. here.before ++ (map (under_path path) (own part.keys ++ forest_rows f) ++ here.after))
-          (ap (replaced (same step) made) split.is
-           ∙ replaced-split same law step made split.left child split.right split.absent_left split.absent_right)
+      (ap (replaced (same step) made) split.is
+      ∙ replaced-split same law step made split.left child split.right split.absent_left split.absent_right)
       ∙ ap (λ r. here.before ++ (map (under_path path) (own part.keys ++ r) ++ here.after))
-          (forest_rows-join split.left (join (made step child) split.right)
-           ∙ ap (λ r. forest_rows split.left ++ r) (forest_rows-join (made step child) split.right))
+      (forest_rows-join split.left (join (made step child) split.right)
+      ∙ ap (λ r. forest_rows split.left ++ r) (forest_rows-join (made step child) split.right))
       ∙ ap (λ r. here.before ++ (r ++ here.after)) (parted path part.keys (forest_rows split.left) (forest_rows (made step child)) (forest_rows split.right))
       ∙ arranged here.before (map (under_path path) (own part.keys)) (map (under_path path) (forest_rows split.left)) (map (under_path path) (forest_rows (made step child))) (map (under_path path) (forest_rows split.right)) here.after
       ∙ sym (exchanged-child same law path step (map (under_path path) (forest_rows (made step child))) tree part child here split)

@@ -12,7 +12,6 @@ all-append P [] ys h k = k
 all-append P (x ∷ xs) ys h k = (h.0, all-append P xs ys h.1 k)
 
 module _ {S K : Type 0} where
-
   -- ---- the siblings of a list
 
   pub steps-join : (f g : Forest S K) → steps (join f g) ≡ steps f ++ steps g
@@ -60,18 +59,18 @@ module _ {S K : Type 0} where
       let here = cases (test s) (each s (record { keys = ks; below = c }) h.0 h.1) in
       (here.0, here.1, Every-in_children P test edit each n h.2)
     where
-    cases : (b : Bool) → P s (edit (record { keys = ks; below = c })).keys × Every P (edit (record { keys = ks; below = c })).below → P s (cond b (edit (record { keys = ks; below = c })) (record { keys = ks; below = c })).keys × Every P (cond b (edit (record { keys = ks; below = c })) (record { keys = ks; below = c })).below
-    cases true k = k
-    cases false k = (h.0, h.1)
+      cases : (b : Bool) → P s (edit (record { keys = ks; below = c })).keys × Every P (edit (record { keys = ks; below = c })).below → P s (cond b (edit (record { keys = ks; below = c })) (record { keys = ks; below = c })).keys × Every P (cond b (edit (record { keys = ks; below = c })) (record { keys = ks; below = c })).below
+      cases true k = k
+      cases false k = (h.0, h.1)
 
   pub Every-without : (P : S → List K → Type 0) (test : S → Bool) (f : Forest S K) → Every P f → Every P (replaced test (λ step child. leaf) f)
   unfolding Every replaced join
   Every-without P test leaf h = tt
   Every-without P test (node s ks c n) h = cases (test s) (Every-without P test n h.2)
     where
-    cases : (b : Bool) → Every P (replaced test (λ step child. leaf) n) → Every P (cond b (replaced test (λ step child. leaf) n) (node s ks c (replaced test (λ step child. leaf) n)))
-    cases true rest = rest
-    cases false rest = (h.0, h.1, rest)
+      cases : (b : Bool) → Every P (replaced test (λ step child. leaf) n) → Every P (cond b (replaced test (λ step child. leaf) n) (node s ks c (replaced test (λ step child. leaf) n)))
+      cases true rest = rest
+      cases false rest = (h.0, h.1, rest)
 
   -- ---- distinct siblings
 
@@ -79,31 +78,33 @@ module _ {S K : Type 0} where
   pub IsDistinct-join : (same : S → S → Bool) (f g : Forest S K) → IsDistinct same f → IsDistinct same g → AllByRecursion (λ step. IsAbsent same step g) (steps f) → IsDistinct same (join f g)
   unfolding IsDistinct join steps
   IsDistinct-join same leaf g h k apart = k
-  IsDistinct-join same (node s ks c n) g h k apart =
-      ( subst (λ all. AllByRecursion (λ other. same s other ≡ false) all) (sym (steps-join n g)) (all-append (λ other. same s other ≡ false) (steps n) (steps g) h.0 apart.0)
-      , h.1
-      , IsDistinct-join same n g h.2 k apart.1)
+  IsDistinct-join same (node s ks c n) g h k apart = (
+    subst (λ all. AllByRecursion (λ other. same s other ≡ false) all) (sym (steps-join n g)) (all-append (λ other. same s other ≡ false) (steps n) (steps g) h.0 apart.0),
+    h.1,
+    IsDistinct-join same n g h.2 k apart.1,
+  )
 
   pub IsDistinct-in_children : (same : S → S → Bool) (test : S → Bool) (edit : Tree S K → Tree S K) → ((tree : Tree S K) → IsDistinct same tree.below → IsDistinct same (edit tree).below) → (f : Forest S K) → IsDistinct same f → IsDistinct same (in_children test edit f)
   unfolding IsDistinct in_children
   IsDistinct-in_children same test edit each leaf h = tt
-  IsDistinct-in_children same test edit each (node s ks c n) h =
-      ( subst (λ all. AllByRecursion (λ other. same s other ≡ false) all) (sym (steps-in_children test edit n)) h.0
-      , cases (test s) (each (record { keys = ks; below = c }) h.1)
-      , IsDistinct-in_children same test edit each n h.2)
+  IsDistinct-in_children same test edit each (node s ks c n) h = (
+    subst (λ all. AllByRecursion (λ other. same s other ≡ false) all) (sym (steps-in_children test edit n)) h.0,
+    cases (test s) (each (record { keys = ks; below = c }) h.1),
+    IsDistinct-in_children same test edit each n h.2,
+  )
     where
-    cases : (b : Bool) → IsDistinct same (edit (record { keys = ks; below = c })).below → IsDistinct same (cond b (edit (record { keys = ks; below = c })) (record { keys = ks; below = c })).below
-    cases true k = k
-    cases false k = h.1
+      cases : (b : Bool) → IsDistinct same (edit (record { keys = ks; below = c })).below → IsDistinct same (cond b (edit (record { keys = ks; below = c })) (record { keys = ks; below = c })).below
+      cases true k = k
+      cases false k = h.1
 
   all-without : (P : S → Type 0) (test : S → Bool) (f : Forest S K) → AllByRecursion P (steps f) → AllByRecursion P (steps (replaced test (λ step child. leaf) f))
   unfolding steps replaced join
   all-without P test leaf h = tt
   all-without P test (node s ks c n) h = cases (test s) (all-without P test n h.1)
     where
-    cases : (b : Bool) → AllByRecursion P (steps (replaced test (λ step child. leaf) n)) → AllByRecursion P (steps (cond b (replaced test (λ step child. leaf) n) (node s ks c (replaced test (λ step child. leaf) n))))
-    cases true rest = rest
-    cases false rest = (h.0, rest)
+      cases : (b : Bool) → AllByRecursion P (steps (replaced test (λ step child. leaf) n)) → AllByRecursion P (steps (cond b (replaced test (λ step child. leaf) n) (node s ks c (replaced test (λ step child. leaf) n))))
+      cases true rest = rest
+      cases false rest = (h.0, rest)
 
   pub IsDistinct-without : (same : S → S → Bool) (test : S → Bool) (f : Forest S K) → IsDistinct same f → IsDistinct same (replaced test (λ step child. leaf) f)
   unfolding IsDistinct replaced join
@@ -111,9 +112,9 @@ module _ {S K : Type 0} where
   IsDistinct-without same test (node s ks c n) h =
       cases (test s) (IsDistinct-without same test n h.2) (all-without (λ other. same s other ≡ false) test n h.0)
     where
-    cases : (b : Bool) → IsDistinct same (replaced test (λ step child. leaf) n) → IsAbsent same s (replaced test (λ step child. leaf) n) → IsDistinct same (cond b (replaced test (λ step child. leaf) n) (node s ks c (replaced test (λ step child. leaf) n)))
-    cases true rest apart = rest
-    cases false rest apart = (apart, h.1, rest)
+      cases : (b : Bool) → IsDistinct same (replaced test (λ step child. leaf) n) → IsAbsent same s (replaced test (λ step child. leaf) n) → IsDistinct same (cond b (replaced test (λ step child. leaf) n) (node s ks c (replaced test (λ step child. leaf) n)))
+      cases true rest apart = rest
+      cases false rest apart = (apart, h.1, rest)
 
   -- ---- how many
 
@@ -142,10 +143,11 @@ Every-grow P step tree (x ∷ xs) h = (h.0.0, h.0.1, Every-grow P step tree xs h
 pub IsDistinct-grow : {A S K : Type 0} (same : S → S → Bool) (step : A → S) (tree : A → Tree S K) (xs : List A) → AreDistinct same (map step xs) → AllByRecursion (λ x. IsDistinct same (tree x).below) xs → IsDistinct same (grow step tree xs)
 unfolding IsDistinct AreDistinct grow
 IsDistinct-grow same step tree [] h k = tt
-IsDistinct-grow same step tree (x ∷ xs) h k =
-    ( subst (λ all. AllByRecursion (λ other. same (step x) other ≡ false) all) (sym (steps-grow step tree xs)) h.0
-    , k.0
-    , IsDistinct-grow same step tree xs h.1 k.1)
+IsDistinct-grow same step tree (x ∷ xs) h k = (
+  subst (λ all. AllByRecursion (λ other. same (step x) other ≡ false) all) (sym (steps-grow step tree xs)) h.0,
+  k.0,
+  IsDistinct-grow same step tree xs h.1 k.1,
+)
 
 pub count-grow : {A S K : Type 0} (step : A → S) (tree : A → Tree S K) (x : A) (xs : List A) → count (grow step tree (x ∷ xs)) ≡ 1 + (count (tree x).below + count (grow step tree xs))
 unfolding count grow

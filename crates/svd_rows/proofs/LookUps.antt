@@ -2,13 +2,13 @@
 use Rattle.std.proofs.Common.{◌≡◌, ℕ, ◌+◌, Bool, true, false, cond, List, [], ◌∷◌, ◌++◌, map, filter, filter_map, length, drop, Option, None, Some, refl, sym, ap, ap₂, ◌∙◌, map-id, append-nil, zero-add, add_assoc, arith, add-one, sum_by, count_by}
 use Rattle.std.proofs.lemmas.List.{map-append}
 use Rattle.std.proofs.lemmas.List.Elements.{filter_map-append}
-use Rattle.svd_rows.specs.Elements.{count}
+use Rattle.svd_rows.specs.Elements.{element_at, IsDistinct}
 use Rattle.svd_rows.specs.Forest.{Forest, Tree, leaf, node, steps}
 use Rattle.svd_rows.specs.LookUps.{seen_below, inside, top_key, child_step, keys_of, children_of}
 use Rattle.svd_rows.specs.Paths.{IsSame, exactly, is_within}
 use Rattle.svd_rows.specs.Rows.{Row, Said, element, states, forest_rows, rows, own, under, under_path, is_element}
 use Rattle.svd_rows.specs.Standing.{Stands}
-use Rattle.svd_rows.proofs.Adding.{filter-part}
+use Rattle.svd_rows.proofs.Adding.{filter-part, filter-none_there}
 use Rattle.svd_rows.proofs.Lists.{map-map, map_agree}
 
 drop-length : {S : Type 0} (path below : List S) → drop (length path) (path ++ below) ≡ below
@@ -26,7 +26,6 @@ no_step S [] = refl
 no_step S (key ∷ keys) = no_step S keys
 
 module _ {S K : Type 0} where
-
   -- what stands at and below the path of an element is the element's rows
   pub inside-rows : (same : S → S → Bool) → IsSame same → (path : List S) (tree part : Tree S K) → Stands same path tree part → inside same path (rows tree) ≡ rows part
   unfolding inside under_path
@@ -35,6 +34,11 @@ module _ {S K : Type 0} where
       ∙ map-map (seen_below path) (under_path path) (rows part)
       ∙ map_agree (λ row. seen_below path (under_path path row)) (λ row. row) (λ row. ap (λ p. record { path = p; said = row.said }) (drop-length path row.path)) (rows part)
       ∙ map-id (rows part)
+
+  -- a path that leads to no element has nothing there
+  pub inside-none : (same : S → S → Bool) → IsSame same → (path : List S) (tree : Tree S K) → IsDistinct same tree.below → element_at (exactly same path) tree ≡ None → inside same path (rows tree) ≡ []
+  unfolding inside
+  inside-none same law path tree distinct e = ap (map (seen_below path)) (filter-none_there same law path tree distinct e)
 
   no_key : (s : S) (all : List (Row S K)) → filter_map (λ row. top_key row.path row.said) (map (under s) all) ≡ []
   unfolding under top_key
@@ -79,12 +83,12 @@ module _ {S K : Type 0} where
   steps-forest leaf = refl
   steps-forest (node s ks c n) =
       ap (λ r. s ∷ r)
-        (filter_map-append (λ row. child_step row.path row.said) (map (under s) (map (λ key. record { path = []; said = states key }) ks ++ forest_rows c)) (forest_rows n)
-         ∙ ap₂ (λ a b. a ++ b)
-             (ap (filter_map (λ row. child_step row.path row.said)) (map-append (under s) (map (λ key. record { path = []; said = states key }) ks) (forest_rows c))
-              ∙ filter_map-append (λ row. child_step row.path row.said) (map (under s) (map (λ key. record { path = []; said = states key }) ks)) (map (under s) (forest_rows c))
-              ∙ ap₂ (λ a b. a ++ b) (no_step-keys s ks) (no_step-below s c))
-             (steps-forest n))
+      (filter_map-append (λ row. child_step row.path row.said) (map (under s) (map (λ key. record { path = []; said = states key }) ks ++ forest_rows c)) (forest_rows n)
+      ∙ ap₂ (λ a b. a ++ b)
+      (ap (filter_map (λ row. child_step row.path row.said)) (map-append (under s) (map (λ key. record { path = []; said = states key }) ks) (forest_rows c))
+      ∙ filter_map-append (λ row. child_step row.path row.said) (map (under s) (map (λ key. record { path = []; said = states key }) ks)) (map (under s) (forest_rows c))
+      ∙ ap₂ (λ a b. a ++ b) (no_step-keys s ks) (no_step-below s c))
+      (steps-forest n))
 
   -- the children that the rows of an element tell are its children
   pub children_of-rows : (tree : Tree S K) → children_of (rows tree) ≡ steps tree.below

@@ -5,7 +5,6 @@ use Rattle.std.proofs.lemmas.List.Elements.{filter-append}
 use Rattle.svd_rows.specs.RowEdits.{some_pass, added, exchanged}
 
 module _ {X : Type 0} where
-
   pub some_pass-append : (test : X → Bool) (xs ys : List X) → some_pass test xs ≡ false → some_pass test (xs ++ ys) ≡ some_pass test ys
   unfolding some_pass
   some_pass-append test [] ys e = refl
@@ -17,22 +16,22 @@ module _ {X : Type 0} where
   unfolding some_pass
   some_pass-left test [] ys e = absurd (false-true e)
     where
-    false-true : false ≡ true → ⊥
-    false-true h = cc
+      false-true : false ≡ true → ⊥
+      false-true h = cc
   some_pass-left test (x ∷ xs) ys e = cases (test x) (some_pass-left test xs ys) e
     where
-    cases : (b : Bool) → (some_pass test xs ≡ true → some_pass test (xs ++ ys) ≡ true) → (b || some_pass test xs) ≡ true → (b || some_pass test (xs ++ ys)) ≡ true
-    cases true rest h = refl
-    cases false rest h = rest h
+      cases : (b : Bool) → (some_pass test xs ≡ true → some_pass test (xs ++ ys) ≡ true) → (b || some_pass test xs) ≡ true → (b || some_pass test (xs ++ ys)) ≡ true
+      cases true rest h = refl
+      cases false rest h = rest h
 
   pub some_pass-right : (test : X → Bool) (xs ys : List X) → some_pass test ys ≡ true → some_pass test (xs ++ ys) ≡ true
   unfolding some_pass
   some_pass-right test [] ys e = e
   some_pass-right test (x ∷ xs) ys e = ap (λ b. test x || b) (some_pass-right test xs ys e) ∙ cases (test x)
     where
-    cases : (b : Bool) → (b || true) ≡ true
-    cases true = refl
-    cases false = refl
+      cases : (b : Bool) → (b || true) ≡ true
+      cases true = refl
+      cases false = refl
 
   pub filter-none : (test : X → Bool) (xs : List X) → some_pass test xs ≡ false → filter test xs ≡ []
   unfolding some_pass
@@ -71,21 +70,22 @@ module _ {X : Type 0} where
   added-before test new [] ys e = added-none test new ys e
   added-before test new (x ∷ xs) ys e = cases (added-before test new xs ys e) (some_pass test xs) refl (test x)
     where
-    whole : (b : Bool) → some_pass test xs ≡ b → some_pass test (xs ++ ys) ≡ b
-    whole true h = some_pass-left test xs ys h
-    whole false h = some_pass-append test xs ys h ∙ e
-    cases : added test new (xs ++ ys) ≡ added test new xs ++ ys → (b : Bool) → some_pass test xs ≡ b → (here : Bool) → cond (some_pass test (xs ++ ys)) (x ∷ added test new (xs ++ ys)) (cond here (x ∷ (new ++ (xs ++ ys))) (x ∷ (xs ++ ys))) ≡ cond (some_pass test xs) (x ∷ added test new xs) (cond here (x ∷ (new ++ xs)) (x ∷ xs)) ++ ys
-    cases rest true h here =
-        cond-true (some_pass test (xs ++ ys)) (x ∷ added test new (xs ++ ys)) (cond here (x ∷ (new ++ (xs ++ ys))) (x ∷ (xs ++ ys))) (whole true h)
-        ∙ ap (λ r. x ∷ r) rest
-        ∙ sym (ap (λ r. r ++ ys) (cond-true (some_pass test xs) (x ∷ added test new xs) (cond here (x ∷ (new ++ xs)) (x ∷ xs)) h))
-    cases rest false h true =
-        cond-false (some_pass test (xs ++ ys)) (x ∷ added test new (xs ++ ys)) (x ∷ (new ++ (xs ++ ys))) (whole false h)
-        ∙ ap (λ r. x ∷ r) (sym (append_assoc new xs ys))
-        ∙ sym (ap (λ r. r ++ ys) (cond-false (some_pass test xs) (x ∷ added test new xs) (x ∷ (new ++ xs)) h))
-    cases rest false h false =
-        cond-false (some_pass test (xs ++ ys)) (x ∷ added test new (xs ++ ys)) (x ∷ (xs ++ ys)) (whole false h)
-        ∙ sym (ap (λ r. r ++ ys) (cond-false (some_pass test xs) (x ∷ added test new xs) (x ∷ xs) h))
+      whole : (b : Bool) → some_pass test xs ≡ b → some_pass test (xs ++ ys) ≡ b
+      whole true h = some_pass-left test xs ys h
+      whole false h = some_pass-append test xs ys h ∙ e
+
+      cases : added test new (xs ++ ys) ≡ added test new xs ++ ys → (b : Bool) → some_pass test xs ≡ b → (here : Bool) → cond (some_pass test (xs ++ ys)) (x ∷ added test new (xs ++ ys)) (cond here (x ∷ (new ++ (xs ++ ys))) (x ∷ (xs ++ ys))) ≡ cond (some_pass test xs) (x ∷ added test new xs) (cond here (x ∷ (new ++ xs)) (x ∷ xs)) ++ ys
+      cases rest true h here =
+          cond-true (some_pass test (xs ++ ys)) (x ∷ added test new (xs ++ ys)) (cond here (x ∷ (new ++ (xs ++ ys))) (x ∷ (xs ++ ys))) (whole true h)
+          ∙ ap (λ r. x ∷ r) rest
+          ∙ sym (ap (λ r. r ++ ys) (cond-true (some_pass test xs) (x ∷ added test new xs) (cond here (x ∷ (new ++ xs)) (x ∷ xs)) h))
+      cases rest false h true =
+          cond-false (some_pass test (xs ++ ys)) (x ∷ added test new (xs ++ ys)) (x ∷ (new ++ (xs ++ ys))) (whole false h)
+          ∙ ap (λ r. x ∷ r) (sym (append_assoc new xs ys))
+          ∙ sym (ap (λ r. r ++ ys) (cond-false (some_pass test xs) (x ∷ added test new xs) (x ∷ (new ++ xs)) h))
+      cases rest false h false =
+          cond-false (some_pass test (xs ++ ys)) (x ∷ added test new (xs ++ ys)) (x ∷ (xs ++ ys)) (whole false h)
+          ∙ sym (ap (λ r. r ++ ys) (cond-false (some_pass test xs) (x ∷ added test new xs) (x ∷ xs) h))
 
   -- where the last item passes
   pub added-last : (test : X → Bool) (new xs : List X) (x : X) → test x ≡ true → added test new (xs ++ x ∷ []) ≡ (xs ++ x ∷ []) ++ new

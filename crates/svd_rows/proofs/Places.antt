@@ -4,7 +4,6 @@ use Rattle.std.specs.List.{AllByRecursion}
 use Rattle.svd_rows.specs.Ranks.{IsRanked, set_key, stated, IsPlaced}
 
 module _ {K : Type 0} where
-
   -- the keys that are stated from a place on have its rank at least
   from_place : (rank : K → ℕ) (low first : ℕ) (places : List (Option K)) → low ≤ first → IsPlaced rank first places → AllByRecursion (λ key. low ≤ rank key) (stated places)
   unfolding IsPlaced stated
@@ -21,9 +20,10 @@ module _ {K : Type 0} where
   unfolding IsPlaced stated IsRanked
   stated-ranked rank first [] h = tt
   stated-ranked rank first (None ∷ places) h = stated-ranked rank (first + 1) places h
-  stated-ranked rank first (Some key ∷ places) h =
-      ( subst (λ n. AllByRecursion (λ other. n < rank other) (stated places)) (sym h.0) (above_place rank first (stated places) (from_place rank (first + 1) (first + 1) places (omega arith) h.1))
-      , stated-ranked rank (first + 1) places h.1)
+  stated-ranked rank first (Some key ∷ places) h = (
+    subst (λ n. AllByRecursion (λ other. n < rank other) (stated places)) (sym h.0) (above_place rank first (stated places) (from_place rank (first + 1) (first + 1) places (omega arith) h.1)),
+    stated-ranked rank (first + 1) places h.1,
+  )
 
   -- a key goes before keys of greater ranks
   set_key-first : (rank : K → ℕ) (new : K) (keys : List K) → AllByRecursion (λ key. rank new < rank key) keys → set_key rank new keys ≡ new ∷ keys

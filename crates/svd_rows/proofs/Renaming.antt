@@ -13,14 +13,13 @@ nowhere [] new = refl
 nowhere (test ∷ tests) new = refl
 
 module _ {S K : Type 0} where
-
   own-moved : (new : List S → List S) → new [] ≡ [] → (keys : List K) → map (moved new) (own keys) ≡ own keys
   unfolding own
   own-moved new e keys =
       ap (λ p. record { path = p; said = element } ∷ map (moved new) (map (λ key. record { path = []; said = states key }) keys)) e
       ∙ ap (λ r. record { path = []; said = element } ∷ r)
-          (map-map (moved new) (λ (key : K). record { path = []; said = states key }) keys
-           ∙ ap (λ p. map (λ (key : K). record { path = p; said = states key }) keys) e)
+      (map-map (moved new) (λ (key : K). record { path = []; said = states key }) keys
+      ∙ ap (λ p. map (λ (key : K). record { path = p; said = states key }) keys) e)
 
   renamed_path-under : (tests : List (S → Bool)) (new : S → S) (test : S → Bool) (s : S) (all : List (Row S K)) → map (moved (renamed_path (test ∷ tests) new)) (map (under s) all) ≡ map (under s) (map (moved (λ path. cond (test s) (renamed_path tests new path) path)) all)
   unfolding under renamed_path
@@ -33,12 +32,12 @@ module _ {S K : Type 0} where
   in_children-moved test edit tests new each leaf = refl
   in_children-moved test edit tests new each (node s ks c n) =
       ap₂ (λ a b. a ++ b) (head (test s) (record { keys = ks; below = c }) ∙ sym (renamed_path-under tests new test s (rows (record { keys = ks; below = c }))))
-        (in_children-moved test edit tests new each n)
+      (in_children-moved test edit tests new each n)
       ∙ sym (map-append (moved (renamed_path (test ∷ tests) new)) (map (under s) (rows (record { keys = ks; below = c }))) (forest_rows n))
     where
-    head : (b : Bool) (tree : Tree S K) → map (under s) (rows (cond b (edit tree) tree)) ≡ map (under s) (map (moved (λ path. cond b (renamed_path tests new path) path)) (rows tree))
-    head true tree = ap (map (under s)) (each tree)
-    head false tree = ap (map (under s)) (sym (map-id (rows tree)))
+      head : (b : Bool) (tree : Tree S K) → map (under s) (rows (cond b (edit tree) tree)) ≡ map (under s) (map (moved (λ path. cond b (renamed_path tests new path) path)) (rows tree))
+      head true tree = ap (map (under s)) (each tree)
+      head false tree = ap (map (under s)) (sym (map-id (rows tree)))
 
   renamed-moved : (new : S → S) (siblings : Forest S K) → forest_rows (renamed new siblings) ≡ map (moved (renamed_path [] new)) (forest_rows siblings)
   unfolding renamed forest_rows renamed_path under
@@ -56,5 +55,5 @@ module _ {S K : Type 0} where
       ∙ sym (map-append (moved (renamed_path [] new)) (own tree.keys) (forest_rows tree.below))
   rows-with_renamed (test ∷ tests) new tree =
       ap₂ (λ a b. a ++ b) (sym (own-moved (renamed_path (test ∷ tests) new) (nowhere (test ∷ tests) new) tree.keys))
-        (in_children-moved test (within tests (with_renamed new)) tests new (rows-with_renamed tests new) tree.below)
+      (in_children-moved test (within tests (with_renamed new)) tests new (rows-with_renamed tests new) tree.below)
       ∙ sym (map-append (moved (renamed_path (test ∷ tests) new)) (own tree.keys) (forest_rows tree.below))

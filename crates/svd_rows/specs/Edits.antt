@@ -11,8 +11,8 @@ unfoldable pub in_children : {S K : Type 0} → (S → Bool) → (Tree S K → T
 in_children test edit leaf = leaf
 in_children test edit (node step keys children siblings) =
     planted step
-      (cond (test step) (edit (record { keys = keys; below = children })) (record { keys = keys; below = children }))
-      (in_children test edit siblings)
+    (cond (test step) (edit (record { keys = keys; below = children })) (record { keys = keys; below = children }))
+    (in_children test edit siblings)
 
 -- each element whose steps pass the tests one by one is edited
 unfoldable pub within : {S K : Type 0} → List (S → Bool) → (Tree S K → Tree S K) → Tree S K → Tree S K
@@ -25,8 +25,8 @@ unfoldable pub replaced : {S K : Type 0} → (S → Bool) → (S → Tree S K �
 replaced test made leaf = leaf
 replaced test made (node step keys children siblings) =
     cond (test step)
-      (join (made step (record { keys = keys; below = children })) (replaced test made siblings))
-      (node step keys children (replaced test made siblings))
+    (join (made step (record { keys = keys; below = children })) (replaced test made siblings))
+    (node step keys children (replaced test made siblings))
 
 -- the siblings under other steps
 unfoldable pub renamed : {S K : Type 0} → (S → S) → Forest S K → Forest S K

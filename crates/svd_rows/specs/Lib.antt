@@ -9,3 +9,4 @@ pub mod Reading
 pub mod RowEdits
 pub mod Rows
 pub mod Standing
+pub mod Worked

@@ -12,7 +12,7 @@ unfoldable pub set_key : {K : Type 0} → (K → ℕ) → K → List K → List 
 set_key rank key [] = key ∷ []
 set_key rank key (first ∷ keys) =
     cond (nat_lt (rank first) (rank key)) (first ∷ set_key rank key keys)
-      (cond (nat_eq (rank first) (rank key)) (key ∷ keys) (key ∷ first ∷ keys))
+    (cond (nat_eq (rank first) (rank key)) (key ∷ keys) (key ∷ first ∷ keys))
 
 -- the keys that stand in a row of places, one place for each rank from the first rank on
 unfoldable pub stated : {K : Type 0} → List (Option K) → List K

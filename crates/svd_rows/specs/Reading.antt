@@ -18,9 +18,9 @@ put (node step keys children leaf) (next ∷ below ∷ path) said =
 -- the element, where a row has been read
 unfoldable pub put_row : {S K : Type 0} → Tree S K → Row S K → Tree S K
 put_row tree row = elim row.path [
-    [] ↦ elim row.said [ element ↦ tree | states key ↦ record { keys = tree.keys ++ key ∷ []; below = tree.below } ]
+  | [] ↦ elim row.said [ element ↦ tree | states key ↦ record { keys = tree.keys ++ key ∷ []; below = tree.below } ]
   | step ∷ path ↦ record { keys = tree.keys; below = put tree.below (step ∷ path) row.said }
-  ]
+]
 
 -- the element, where these rows have been read one after the other
 unfoldable pub put_rows : {S K : Type 0} → Tree S K → List (Row S K) → Tree S K

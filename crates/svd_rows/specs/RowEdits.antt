@@ -50,5 +50,5 @@ has_rank rank n (states key) = nat_eq (rank key) n
 unfoldable pub with_key : {S K : Type 0} → (S → S → Bool) → (K → ℕ) → List S → K → List (Row S K) → List (Row S K)
 with_key same rank path key all =
     added (λ row. is_at (map same path) row && is_below_rank rank (rank key) row.said)
-      (record { path = path; said = states key } ∷ [])
-      (filter (λ row. not (is_at (map same path) row && has_rank rank (rank key) row.said)) all)
+    (record { path = path; said = states key } ∷ [])
+    (filter (λ row. not (is_at (map same path) row && has_rank rank (rank key) row.said)) all)

@@ -4,6 +4,6 @@ use Rattle.svd_rows.proofs.laws.edits_law.Goals as goal
 
 pub returns : goal.returns
 returns g c = record {
-  deletion_is_filter = rows-without_children;
-  renaming_is_map = rows-with_renamed;
+  deletion = rows-without_children;
+  renaming = rows-with_renamed;
 }
