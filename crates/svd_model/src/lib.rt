@@ -1,8 +1,14 @@
-// The tree that a description reads as: a device of peripherals, a peripheral of registers.
+// The tree of a description: a device of peripherals, these of clusters and registers, these of fields
+// with their enumerated values. Its typed states, each of which contracts see as a flat list of rows, and
+// the properties that hold at a register and at a field.
 #![tactic(auto)]
 
 mod device;
+mod props;
 mod sibling;
 
-pub use device::{Child, Device, Item, Peripheral, Register};
+pub use device::{
+    Child, Cluster, Device, Dim, Field, Item, Peripheral, Register, Values, Variant,
+};
+pub use props::Props;
 pub use sibling::Sibling;

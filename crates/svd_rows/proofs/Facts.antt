@@ -118,10 +118,14 @@ module _ {S K : Type 0} where
 
   -- ---- how many
 
-  pub count-join : (f g : Forest S K) → count (join f g) ≡ count f + count g
+  pub count-join : (test : S → Bool) (f g : Forest S K) → count test (join f g) ≡ count test f + count test g
   unfolding count join
-  count-join leaf g = sym (zero-add (count g))
-  count-join (node s ks c n) g = let rest = count-join n g in omega arith
+  count-join test leaf g = sym (zero-add (count test g))
+  count-join test (node s ks c n) g =
+      ap (λ rest. cond (test s) 1 0 + (count test c + rest)) (count-join test n g) ∙ sums (cond (test s) 1 0) (count test c) (count test n) (count test g)
+    where
+    sums : (a b c d : ℕ) → a + (b + (c + d)) ≡ (a + (b + c)) + d
+    sums a b c d = omega arith
 
 -- ---- the siblings that a list stands for
 
@@ -149,6 +153,6 @@ IsDistinct-grow same step tree (x ∷ xs) h k = (
   IsDistinct-grow same step tree xs h.1 k.1,
 )
 
-pub count-grow : {A S K : Type 0} (step : A → S) (tree : A → Tree S K) (x : A) (xs : List A) → count (grow step tree (x ∷ xs)) ≡ 1 + (count (tree x).below + count (grow step tree xs))
+pub count-grow : {A S K : Type 0} (test : S → Bool) (step : A → S) (tree : A → Tree S K) (x : A) (xs : List A) → count test (grow step tree (x ∷ xs)) ≡ cond (test (step x)) 1 0 + (count test (tree x).below + count test (grow step tree xs))
 unfolding count grow
-count-grow step tree x xs = refl
+count-grow test step tree x xs = refl

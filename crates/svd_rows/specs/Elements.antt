@@ -44,7 +44,7 @@ unfoldable pub Every : {S K : Type 0} → (S → List K → Type 0) → Forest S
 Every P leaf = ⊤
 Every P (node step keys children siblings) = P step keys × Every P children × Every P siblings
 
--- how many elements there are
-unfoldable pub count : {S K : Type 0} → Forest S K → ℕ
-count leaf = 0
-count (node step keys children siblings) = 1 + (count children + count siblings)
+-- how many elements there are whose steps pass the test
+unfoldable pub count : {S K : Type 0} → (S → Bool) → Forest S K → ℕ
+count test leaf = 0
+count test (node step keys children siblings) = cond (test step) 1 0 + (count test children + count test siblings)

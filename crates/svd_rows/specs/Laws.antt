@@ -4,7 +4,7 @@ use Rattle.std.specs.Prelude.{◌≡◌, ℕ, ◌+◌, ◌<◌, Bool, true, fals
 use Rattle.svd_rows.specs.Edits.{within, planted, replaced, without_children, with_renamed, with_children, with_replaced, with_keys}
 use Rattle.svd_rows.specs.Elements.{found, child_at, element_at, IsDistinct, count}
 use Rattle.svd_rows.specs.Forest.{Forest, Tree, leaf, node, join, steps}
-use Rattle.svd_rows.specs.LookUps.{inside, keys_of, children_of, element_paths}
+use Rattle.svd_rows.specs.LookUps.{inside, keys_of, children_of, element_paths, is_element_of}
 use Rattle.svd_rows.specs.Paths.{IsSame, exactly, is_within}
 use Rattle.svd_rows.specs.Ranks.{IsRanked, IsPlaced, stated, set_key}
 use Rattle.svd_rows.specs.Reading.{tree_of}
@@ -33,7 +33,8 @@ EqualRowsEqualTrees S K = (tree other : Tree S K) → rows tree ≡ rows other �
 
 -- each element has one row that says that it is there
 abbrev pub CountIsElementRows : (S K : Type 0) → Type 0
-CountIsElementRows S K = (tree : Tree S K) → length (filter is_element (rows tree)) ≡ 1 + count tree.below
+CountIsElementRows S K =
+    (test : S → Bool) (tree : Tree S K) → length (filter (is_element_of test) (rows tree)) ≡ count test tree.below
 
 -- ---- what the rows tell
 

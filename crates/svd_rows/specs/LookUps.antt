@@ -35,3 +35,13 @@ children_of all = filter_map (λ row. child_step row.path row.said) all
 -- the paths of the elements whose steps pass the tests one by one, in document order
 unfoldable pub element_paths : {S K : Type 0} → List (S → Bool) → List (Row S K) → List (List S)
 element_paths tests all = map (λ row. row.path) (filter (λ row. is_element row && is_at tests row) all)
+
+-- the last step of the path passes the test
+unfoldable pub ends_with : {S : Type 0} → (S → Bool) → List S → Bool
+ends_with test [] = false
+ends_with test (step ∷ []) = test step
+ends_with test (step ∷ next ∷ path) = ends_with test (next ∷ path)
+
+-- the row says that an element is there whose step passes the test
+abbrev pub is_element_of : {S K : Type 0} → (S → Bool) → Row S K → Bool
+is_element_of test row = is_element row && ends_with test row.path
