@@ -6,9 +6,11 @@
 mod device;
 mod props;
 mod sibling;
+mod states;
 
 pub use device::{
     Child, Cluster, Device, Dim, Field, Item, Peripheral, Register, Values, Variant,
 };
 pub use props::Props;
 pub use sibling::Sibling;
+pub use states::{Checked, Derived, Described, Patched, Unfolded};
