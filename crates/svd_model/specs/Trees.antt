@@ -1,6 +1,5 @@
 -- The pure tree of a device, of steps and keys, and its flat list of rows. No code builds them.
-use Rattle.std.specs.Prelude.{ℕ, List, [], ◌∷◌, ◌++◌, Option, Some, None, option_map, unwrap_or}
-use Rattle.std.specs.List.{enumerate_from}
+use Rattle.std.specs.Prelude.{ℕ, ◌+◌, List, [], ◌∷◌, ◌++◌, Option, Some, None, option_map, unwrap_or, map}
 use Rattle.svd_model.specs.declared.device.Child.{Child}
 use Rattle.svd_model.specs.declared.device.Child.TheOpen.{Child-F, Cluster-F, Item-F}
 use Rattle.svd_model.specs.declared.device.Child.TheOpen as opened
@@ -65,39 +64,47 @@ value_places element =
 abbrev pub step_of : Kind → Sibling → Step
 step_of kind key = record { kind = kind; name = key.name; number = key.number }
 
-abbrev pub value_step : (ℕ × Variant) → Step
-value_step entry = record { kind = value; name = entry.1.name; number = entry.0 }
+-- siblings with their steps, in their order
+unfoldable pub siblings : List (Step × Tree Step Key) → Forest Step Key
+siblings elements = grow (λ element. element.0) (λ element. element.1) elements
 
-abbrev pub value_tree : (ℕ × Variant) → Tree Step Key
-value_tree entry = record { keys = stated (value_places entry.1); below = leaf }
+-- siblings that are told apart by their places, counted from this number on
+unfoldable pub numbered : Kind → ℕ → List (List ℕ × Tree Step Key) → Forest Step Key
+numbered kind n [] = leaf
+numbered kind n (element ∷ others) =
+    node (record { kind = kind; name = element.0; number = n }) element.1.keys element.1.below (numbered kind (n + 1) others)
 
-abbrev pub set_step : (ℕ × Values) → Step
-set_step entry = record { kind = set; name = unwrap_or entry.1.name []; number = entry.0 }
+-- an enumerated value: its name, and its tree
+abbrev pub value_tree : Variant → (List ℕ × Tree Step Key)
+value_tree element = (element.name, record { keys = stated (value_places element); below = leaf })
 
-abbrev pub set_tree : (ℕ × Values) → Tree Step Key
-set_tree entry =
-    record { keys = stated (set_places entry.1); below = grow value_step value_tree (enumerate_from 0 entry.1.items.items) }
+-- a set of enumerated values: its name, and its tree
+abbrev pub set_tree : Values → (List ℕ × Tree Step Key)
+set_tree element =
+    (unwrap_or element.name [], record { keys = stated (set_places element); below = numbered value 0 (map value_tree element.items.items) })
 
-abbrev pub field_step : (Sibling × Field) → Step
-field_step entry = step_of field entry.0
+abbrev pub field_tree : Field → Tree Step Key
+field_tree element =
+    record { keys = stated (field_places element); below = numbered set 0 (map set_tree element.values.items) }
 
-abbrev pub field_tree : (Sibling × Field) → Tree Step Key
-field_tree entry =
-    record { keys = stated (field_places entry.1); below = grow set_step set_tree (enumerate_from 0 entry.1.values.items) }
+-- a field under its key
+abbrev pub field_under : (Sibling × Field) → (Step × Tree Step Key)
+field_under entry = (step_of field entry.0, field_tree entry.1)
 
 abbrev pub register_tree : Register → Tree Step Key
 register_tree element =
-    record { keys = stated (register_places element); below = grow field_step field_tree element.fields.entries }
+    record { keys = stated (register_places element); below = siblings (map field_under element.fields.entries) }
 
--- a child with its kind; a cluster has its children in place of the items
+-- a child with its kind
 abbrev pub child_layer : Child-F (Kind × Tree Step Key) (Tree Step Key) (Step × Tree Step Key) → (Kind × Tree Step Key)
 child_layer (opened.Cluster tree) = (cluster, tree)
 child_layer (opened.Register element) = (register, register_tree element)
 
+-- a cluster in which each child is a tree already
 abbrev pub cluster_layer : Cluster-F (Kind × Tree Step Key) (Tree Step Key) (Step × Tree Step Key) → Tree Step Key
-cluster_layer element =
-    record { keys = stated (cluster_places element); below = grow (λ item. item.0) (λ item. item.1) element.children.items }
+cluster_layer element = record { keys = stated (cluster_places element); below = siblings element.children.items }
 
+-- a child under its key
 abbrev pub item_layer : Item-F (Kind × Tree Step Key) (Tree Step Key) (Step × Tree Step Key) → (Step × Tree Step Key)
 item_layer item = (step_of item.child.0 item.key, item.child.1)
 
@@ -107,24 +114,21 @@ child_tree = fold-Child (Kind × Tree Step Key) (Tree Step Key) (Step × Tree St
 unfoldable pub cluster_tree : Cluster → Tree Step Key
 cluster_tree = fold-Cluster (Kind × Tree Step Key) (Tree Step Key) (Step × Tree Step Key) child_layer cluster_layer item_layer
 
-unfoldable pub item_tree : Item → (Step × Tree Step Key)
-item_tree = fold-Item (Kind × Tree Step Key) (Tree Step Key) (Step × Tree Step Key) child_layer cluster_layer item_layer
+unfoldable pub item_under : Item → (Step × Tree Step Key)
+item_under = fold-Item (Kind × Tree Step Key) (Tree Step Key) (Step × Tree Step Key) child_layer cluster_layer item_layer
 
--- the registers and clusters of a parent
-unfoldable pub items_forest : List Item → Forest Step Key
-items_forest items = grow (λ item. (item_tree item).0) (λ item. (item_tree item).1) items
+abbrev pub peripheral_tree : Peripheral → Tree Step Key
+peripheral_tree element =
+    record { keys = stated (peripheral_places element); below = siblings (map item_under element.children.items) }
 
-abbrev pub peripheral_step : (Sibling × Peripheral) → Step
-peripheral_step entry = step_of peripheral entry.0
-
-abbrev pub peripheral_tree : (Sibling × Peripheral) → Tree Step Key
-peripheral_tree entry =
-    record { keys = stated (peripheral_places entry.1); below = items_forest entry.1.children.items }
+-- a peripheral under its key
+abbrev pub peripheral_under : (Sibling × Peripheral) → (Step × Tree Step Key)
+peripheral_under entry = (step_of peripheral entry.0, peripheral_tree entry.1)
 
 -- the pure tree of a device
 unfoldable pub device_tree : Device → Tree Step Key
 device_tree device =
-    record { keys = stated (device_places device); below = grow peripheral_step peripheral_tree device.peripherals.entries }
+    record { keys = stated (device_places device); below = siblings (map peripheral_under device.peripherals.entries) }
 
 -- the flat list of rows that a device is seen as
 abbrev pub device_rows : Device → List (Row Step Key)

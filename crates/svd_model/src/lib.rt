@@ -4,6 +4,7 @@
 #![tactic(auto)]
 
 mod device;
+mod facts;
 mod props;
 mod sibling;
 mod states;
@@ -11,6 +12,7 @@ mod states;
 pub use device::{
     Child, Cluster, Device, Dim, Field, Item, Peripheral, Register, Values, Variant,
 };
-pub use props::Props;
+pub use facts::{FieldFacts, RegisterFacts};
+pub use props::{Props, properties_law};
 pub use sibling::Sibling;
 pub use states::{Checked, Derived, Described, Patched, Unfolded};
