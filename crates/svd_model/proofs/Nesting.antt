@@ -1,14 +1,14 @@
 -- Properties held one round the other.
-use Rattle.std.proofs.Common.{◌≡◌, List, [], ◌∷◌, map, Option, Some, None, refl, sym, ap, ◌∙◌}
+use Rattle.std.proofs.Common.{◌≡◌, List, [], ◌∷◌, map, Option, Some, None, refl}
 use Rattle.svd_model.specs.declared.props.Props.{Props}
 use Rattle.svd_model.specs.Properties.{nearest, holding, PropertiesNest}
 
 nearest-nested : {A : Type 0} (first : Option A) (others : List (Option A)) → nearest (first ∷ nearest others ∷ []) ≡ nearest (first ∷ others)
 nearest-nested {A = A} None others = one (nearest others)
   where
-  one : (o : Option A) → nearest (o ∷ []) ≡ o
-  one None = refl
-  one (Some x) = refl
+    one : (o : Option A) → nearest (o ∷ []) ≡ o
+    one None = refl
+    one (Some x) = refl
 nearest-nested {A = A} (Some x) others = refl
 
 pub holding-nested : PropertiesNest

@@ -1,10 +1,10 @@
 -- What each typed state of a device says of it. CMSIS-SVD 1.3 gives the forms; the bounds and limits are this
 -- project's own.
-use Rattle.std.specs.Prelude.{◌≡◌, ◌≢◌, ◌⊎◌, ◌↔◌, ℕ, ◌+◌, ◌^◌, ◌<◌, ◌≤◌, Bool, true, false, not, ◌&&◌, ◌||◌, nat_le, List, [], ◌∷◌, ◌++◌, length, ⊤, IsTrue}
+use Rattle.std.specs.Prelude.{◌≡◌, ◌≢◌, ◌⊎◌, ℕ, ◌^◌, ◌<◌, ◌≤◌, Bool, true, false, ◌&&◌, ◌||◌, nat_le, List, [], length, ⊤, IsTrue}
 use Rattle.std.specs.List.{AllByRecursion, list_all, list_any}
-use Rattle.pac_base.specs.Names.{IsWord, IsListName, IsArrayName}
+use Rattle.pac_base.specs.Names.{IsWord, IsArrayName}
 use Rattle.svd_model.specs.declared.device.Device.{Device}
-use Rattle.svd_model.specs.Keys.{Key, device_name, derived_from, dim_count, dim_increment, dim_index, base_address, at_offset, bit_width, alternate_of, alternate_group, register_size, register_access, reset_value, reset_mask, write_kind, read_action, value_usage, enumerated_value}
+use Rattle.svd_model.specs.Keys.{Key, derived_from, dim_count, dim_index, base_address, at_offset, bit_width}
 use Rattle.svd_model.specs.Steps.{Step, Kind, peripheral, cluster, register, field, set, value, same_key}
 use Rattle.svd_model.specs.Trees.{device_tree}
 use Rattle.svd_rows.specs.Elements.{IsDistinct, Every, count}
@@ -20,9 +20,9 @@ element_limit = 1048576
 abbrev pub is_counted : Step → Bool
 is_counted step = counts step.kind
   where
-  counts : Kind → Bool
-  counts set = false
-  counts _ = true
+    counts : Kind → Bool
+    counts set = false
+    counts _ = true
 
 -- two letters of one case, the first not behind the last
 abbrev pub IsLetterRange : ℕ → ℕ → Type 0
@@ -67,11 +67,11 @@ is_dim _ = false
 abbrev pub HasForm : (List Key → Type 0) → Step → List Key → Type 0
 HasForm OfField step keys = at step.kind
   where
-  at : Kind → Type 0
-  at field = (step.number ≡ 0) × OfField keys
-  at set = ⊤
-  at value = IsValueName step.name
-  at _ = step.number ≡ 0
+    at : Kind → Type 0
+    at field = (step.number ≡ 0) × OfField keys
+    at set = ⊤
+    at value = IsValueName step.name
+    at _ = step.number ≡ 0
 
 -- a field states its offset, or from which field it is derived
 abbrev pub IsPlacedOrDerived : List Key → Type 0
@@ -110,17 +110,19 @@ IsArrayDim _ = ⊤
 abbrev pub IsArrayOrPlain : Step → List Key → Type 0
 IsArrayOrPlain step keys = at step.kind
   where
-  marked : Type 0
-  marked = (IsTrue (list_any is_dim keys) × IsArrayName step.name) ⊎ ((list_any is_dim keys ≡ false) × IsWord step.name)
-  plain : Type 0
-  plain = (list_any is_dim keys ≡ false) × IsWord step.name
-  at : Kind → Type 0
-  at peripheral = plain
-  at cluster = marked
-  at register = marked
-  at field = plain × IsPlaced keys
-  at set = ⊤
-  at value = IsValueName step.name
+    marked : Type 0
+    marked = (IsTrue (list_any is_dim keys) × IsArrayName step.name) ⊎ ((list_any is_dim keys ≡ false) × IsWord step.name)
+
+    plain : Type 0
+    plain = (list_any is_dim keys ≡ false) × IsWord step.name
+
+    at : Kind → Type 0
+    at peripheral = plain
+    at cluster = marked
+    at register = marked
+    at field = plain × IsPlaced keys
+    at set = ⊤
+    at value = IsValueName step.name
 
 -- what holds of each element after unfolding: members may begin past 2^64 before that is refused
 pub record IsUnfoldedElement (step : Step) (keys : List Key) : Type 0 where

@@ -1,6 +1,6 @@
 -- The properties that hold at a register and at a field (CMSIS-SVD 1.3, `registerPropertiesGroup`; the
 -- defaults, the directions that go by the fields, and the cut reset word are this project's own rules).
-use Rattle.std.specs.Prelude.{◌≡◌, ◌⊎◌, ℕ, ◌+◌, ◌-◌, ◌%◌, ◌^◌, ◌<◌, ◌≤◌, Bool, true, false, not, ◌&&◌, ◌||◌, if◌then◌else◌, List, [], ◌∷◌, map, length, Option, Some, None, unwrap_or, bit_and, IsTrue}
+use Rattle.std.specs.Prelude.{◌≡◌, ◌⊎◌, ℕ, ◌-◌, ◌%◌, ◌^◌, ◌<◌, ◌≤◌, Bool, true, false, if◌then◌else◌, List, [], ◌∷◌, map, Option, Some, None, unwrap_or, bit_and}
 use Rattle.std.specs.List.{list_all}
 use Rattle.pac_base.specs.Widths.{bits_of, IsLeastWidth}
 use Rattle.pac_base.specs.declared.width.Width.{Width}

@@ -1,5 +1,5 @@
 -- The steps of a path down the tree of a description: a kind, a written name and a number.
-use Rattle.std.specs.Prelude.{◌≡◌, ℕ, Bool, true, false, ◌&&◌, nat_eq, List, [], ◌∷◌}
+use Rattle.std.specs.Prelude.{ℕ, Bool, ◌&&◌, nat_eq, List}
 use Rattle.std.specs.Str.{bytes_eq}
 
 -- the kinds of elements below a device (CMSIS-SVD 1.3; `set` is `enumeratedValues`, `value` is

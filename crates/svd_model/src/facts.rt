@@ -115,10 +115,7 @@ impl Field {
         FieldFacts {
             readable: facts.readable && may_read(self.access),
             writable: facts.writable && may_write(self.access),
-            kind: self
-                .kind
-                .or(register.kind)
-                .unwrap_or(WriteKind::Modify),
+            kind: self.kind.or(register.kind).unwrap_or(WriteKind::Modify),
         }
     }
 }

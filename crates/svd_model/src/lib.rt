@@ -3,15 +3,14 @@
 // the properties that hold at a register and at a field.
 #![tactic(auto)]
 
+mod copy;
 mod device;
 mod facts;
 mod props;
 mod sibling;
 mod states;
 
-pub use device::{
-    Child, Cluster, Device, Dim, Field, Item, Peripheral, Register, Values, Variant,
-};
+pub use device::{Child, Cluster, Device, Dim, Field, Item, Peripheral, Register, Values, Variant};
 pub use facts::{FieldFacts, RegisterFacts};
 pub use props::{Props, properties_law};
 pub use sibling::Sibling;

@@ -36,5 +36,4 @@ impl Props {
 /// the nearest element states.
 pub fn properties_law()
     ensures { PropertiesNest }
-{
-}
+{}

@@ -1,17 +1,16 @@
 -- Children that are added to an element, or that replace one of its children, among the rows.
-use Rattle.std.proofs.Common.{◌≡◌, Bool, true, false, cond, not, ◌&&◌, ◌||◌, List, [], ◌∷◌, ◌++◌, map, filter, Option, None, Some, option_and_then, refl, sym, ap, ap₂, ◌∙◌, subst, append-nil, append_assoc}
-use Rattle.std.proofs.lemmas.Bool.{cond-true, cond-false}
+use Rattle.std.proofs.Common.{◌≡◌, Bool, true, false, cond, ◌&&◌, ◌||◌, List, [], ◌∷◌, ◌++◌, map, filter, Option, None, Some, option_and_then, refl, sym, ap, ap₂, ◌∙◌, append-nil, append_assoc}
 use Rattle.std.proofs.lemmas.List.{map-append}
 use Rattle.std.proofs.lemmas.List.Elements.{filter-append}
-use Rattle.svd_rows.specs.Edits.{planted, within, replaced, with_children, with_replaced}
+use Rattle.svd_rows.specs.Edits.{planted, within, with_children}
 use Rattle.svd_rows.specs.Elements.{child_at, element_at, IsAbsent, IsDistinct}
-use Rattle.svd_rows.specs.Forest.{Forest, Tree, leaf, node, join, steps}
+use Rattle.svd_rows.specs.Forest.{Forest, Tree, leaf, node, steps}
 use Rattle.svd_rows.specs.Paths.{IsSame, begins, exactly, is_within}
-use Rattle.svd_rows.specs.RowEdits.{some_pass, added, exchanged}
-use Rattle.svd_rows.specs.Rows.{Row, Said, element, states, forest_rows, rows, own, under, under_path}
+use Rattle.svd_rows.specs.RowEdits.{some_pass, added}
+use Rattle.svd_rows.specs.Rows.{Row, element, states, forest_rows, rows, own, under, under_path}
 use Rattle.svd_rows.specs.Standing.{Stands}
-use Rattle.svd_rows.proofs.Finding.{map-under_path, map-under_nothing, filter-under}
-use Rattle.svd_rows.proofs.Passing.{some_pass-append, some_pass-left, filter-none, filter-not_none, added-after, added-before, added-none, exchanged-before}
+use Rattle.svd_rows.proofs.Finding.{filter-under}
+use Rattle.svd_rows.proofs.Passing.{filter-none, added-after, added-before}
 use Rattle.svd_rows.proofs.Rows.{forest_rows-join}
 use Rattle.svd_rows.proofs.Standing.{Splits, child_at-splits, child_at-distinct, absent-rows, some_pass-own}
 use Rattle.std.specs.List.{AllByRecursion}

@@ -1,11 +1,11 @@
 -- Deletion in the tree is a filter of the rows.
-use Rattle.std.proofs.Common.{◌≡◌, Bool, true, false, cond, not, ◌&&◌, ◌||◌, List, [], ◌∷◌, ◌++◌, map, filter, refl, sym, ap, ap₂, ◌∙◌}
+use Rattle.std.proofs.Common.{◌≡◌, Bool, true, false, cond, not, ◌&&◌, List, [], ◌∷◌, ◌++◌, map, filter, refl, sym, ap, ap₂, ◌∙◌}
 use Rattle.std.proofs.lemmas.List.Elements.{filter-append, filter_agree}
-use Rattle.svd_rows.specs.Edits.{planted, in_children, within, replaced, without_children}
+use Rattle.svd_rows.specs.Edits.{in_children, within, replaced, without_children}
 use Rattle.svd_rows.specs.Forest.{Forest, Tree, leaf, node, join}
 use Rattle.svd_rows.specs.Paths.{begins, is_within}
 use Rattle.svd_rows.specs.RowEdits.{without}
-use Rattle.svd_rows.specs.Rows.{Row, Said, element, states, forest_rows, rows, own, under}
+use Rattle.svd_rows.specs.Rows.{Row, element, states, forest_rows, rows, own, under}
 use Rattle.svd_rows.proofs.Lists.{filter-map, filter_all, filter_none}
 
 -- the path stays where it leads elsewhere, or where the test of what is left of it passes

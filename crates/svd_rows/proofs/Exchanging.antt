@@ -1,16 +1,15 @@
 -- Elements that stand in the place of one child, among the rows.
-use Rattle.std.proofs.Common.{◌≡◌, Bool, true, false, cond, not, ◌&&◌, ◌||◌, List, [], ◌∷◌, ◌++◌, map, filter, refl, sym, ap, ap₂, ◌∙◌, subst, append-nil, append_assoc}
+use Rattle.std.proofs.Common.{◌≡◌, Bool, true, false, not, ◌&&◌, ◌||◌, List, [], ◌∷◌, ◌++◌, map, filter, refl, sym, ap, ap₂, ◌∙◌, append_assoc}
 use Rattle.std.proofs.lemmas.Bool.{cond-true, cond-false, or_parts, or_from}
 use Rattle.std.proofs.lemmas.List.{map-append}
 use Rattle.std.proofs.lemmas.List.Elements.{filter-append}
 use Rattle.svd_rows.specs.Edits.{planted, within, replaced, with_replaced}
-use Rattle.svd_rows.specs.Elements.{child_at, element_at, IsAbsent, IsDistinct}
+use Rattle.svd_rows.specs.Elements.{IsAbsent}
 use Rattle.svd_rows.specs.Forest.{Forest, Tree, leaf, node, join, steps}
 use Rattle.svd_rows.specs.Paths.{IsSame, begins, exactly, is_within}
 use Rattle.svd_rows.specs.RowEdits.{some_pass, exchanged}
-use Rattle.svd_rows.specs.Rows.{Row, Said, element, states, forest_rows, rows, own, under, under_path}
+use Rattle.svd_rows.specs.Rows.{Row, element, states, forest_rows, rows, own, under, under_path}
 use Rattle.svd_rows.specs.Standing.{Stands}
-use Rattle.svd_rows.proofs.Finding.{map-under_path, map-under_nothing}
 use Rattle.svd_rows.proofs.Passing.{some_pass-append, filter-not_none, exchanged-before}
 use Rattle.svd_rows.proofs.Rows.{forest_rows-join}
 use Rattle.svd_rows.proofs.Standing.{Splits, absent-rows, some_pass-own}

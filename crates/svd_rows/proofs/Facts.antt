@@ -1,11 +1,9 @@
 -- What holds of each element, that siblings are distinct, and how many elements there are, after edits.
-use Rattle.std.proofs.Common.{◌≡◌, ℕ, ◌+◌, ◌<◌, Bool, true, false, cond, not, List, [], ◌∷◌, ◌++◌, map, filter, sum_by, count_by, refl, sym, ap, ap₂, ◌∙◌, subst, arith, add_assoc, zero-add}
+use Rattle.std.proofs.Common.{◌≡◌, ℕ, ◌+◌, Bool, true, false, cond, List, [], ◌∷◌, ◌++◌, map, refl, sym, ap, ◌∙◌, subst, arith, zero-add}
 use Rattle.std.specs.List.{AllByRecursion, IsDistinct as AreDistinct}
-use Rattle.std.proofs.lemmas.Bool.{cond-true, cond-false}
-use Rattle.svd_rows.specs.Edits.{planted, in_children, within, replaced, renamed}
+use Rattle.svd_rows.specs.Edits.{planted, in_children, replaced, renamed}
 use Rattle.svd_rows.specs.Elements.{IsAbsent, IsDistinct, Every, count}
 use Rattle.svd_rows.specs.Forest.{Forest, Tree, leaf, node, join, grow, steps}
-use Rattle.svd_rows.specs.Rows.{Row, Said, element, states, forest_rows, rows, own, under, is_element}
 
 all-append : {X : Type 0} (P : X → Type 0) (xs ys : List X) → AllByRecursion P xs → AllByRecursion P ys → AllByRecursion P (xs ++ ys)
 all-append P [] ys h k = k
@@ -124,8 +122,8 @@ module _ {S K : Type 0} where
   count-join test (node s ks c n) g =
       ap (λ rest. cond (test s) 1 0 + (count test c + rest)) (count-join test n g) ∙ sums (cond (test s) 1 0) (count test c) (count test n) (count test g)
     where
-    sums : (a b c d : ℕ) → a + (b + (c + d)) ≡ (a + (b + c)) + d
-    sums a b c d = omega arith
+      sums : (a b c d : ℕ) → a + (b + (c + d)) ≡ (a + (b + c)) + d
+      sums a b c d = omega arith
 
 -- ---- the siblings that a list stands for
 

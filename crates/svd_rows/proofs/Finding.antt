@@ -7,7 +7,7 @@ use Rattle.svd_rows.specs.Elements.{found, found_in, step_down}
 use Rattle.svd_rows.specs.Forest.{Forest, Tree, leaf, node}
 use Rattle.svd_rows.specs.LookUps.{element_paths}
 use Rattle.svd_rows.specs.Paths.{begins, fits, is_within, is_at}
-use Rattle.svd_rows.specs.Rows.{Row, Said, element, states, forest_rows, rows, own, under, under_path, is_element}
+use Rattle.svd_rows.specs.Rows.{Row, states, forest_rows, rows, own, under, under_path, is_element}
 use Rattle.svd_rows.proofs.Lists.{filter-map, map-map, filter_all, filter_none}
 
 and_false : (b : Bool) → (b && false) ≡ false

@@ -1,19 +1,19 @@
 -- Keys in their order by rank, and what setting one does to the rows.
-use Rattle.std.proofs.Common.{◌≡◌, ℕ, ◌<◌, ◌+◌, Bool, true, false, cond, not, ◌&&◌, ◌||◌, nat_lt, nat_eq, List, [], ◌∷◌, ◌++◌, map, filter, refl, sym, ap, ap₂, ◌∙◌, subst, append-nil, append_assoc, arith, eqb-true, ltb-true, ltb-false, lt-ltb, le-ltb, eq-eqb, ne_eqb}
+use Rattle.std.proofs.Common.{◌≡◌, ℕ, ◌<◌, Bool, true, false, cond, not, ◌&&◌, ◌||◌, nat_lt, nat_eq, List, [], ◌∷◌, ◌++◌, map, filter, refl, sym, ap, ap₂, ◌∙◌, subst, append-nil, append_assoc, arith, eqb-true, ltb-true, ltb-false, le-ltb, ne_eqb}
 use Rattle.std.specs.List.{AllByRecursion}
-use Rattle.std.proofs.lemmas.Bool.{cond-true, cond-false, eqb-false}
+use Rattle.std.proofs.lemmas.Bool.{eqb-false}
 use Rattle.std.proofs.lemmas.List.{map-append}
 use Rattle.std.proofs.lemmas.List.Elements.{filter-append, filter_agree}
 use Rattle.svd_rows.specs.Edits.{within, with_keys}
 use Rattle.svd_rows.specs.Forest.{Forest, Tree, leaf, node}
 use Rattle.svd_rows.specs.Paths.{IsSame, begins, fits, exactly, is_within, is_at}
-use Rattle.svd_rows.specs.Ranks.{IsRanked, set_key, stated, IsPlaced}
+use Rattle.svd_rows.specs.Ranks.{IsRanked, set_key}
 use Rattle.svd_rows.specs.RowEdits.{some_pass, added, is_below_rank, has_rank, with_key}
 use Rattle.svd_rows.specs.Rows.{Row, Said, element, states, forest_rows, rows, own, under, under_path}
 use Rattle.svd_rows.specs.Standing.{Stands}
 use Rattle.svd_rows.proofs.Exchanging.{some_pass-weaker, some_pass-map, some_pass-agree}
 use Rattle.svd_rows.proofs.Lists.{filter-map, map-map}
-use Rattle.svd_rows.proofs.Passing.{some_pass-append, some_pass-left, filter-not_none, added-after, added-before, added-none}
+use Rattle.svd_rows.proofs.Passing.{some_pass-append, some_pass-left, filter-not_none, added-after, added-before}
 
 -- keys that all have a greater rank
 above-kept : {K : Type 0} (rank : K → ℕ) (n : ℕ) (keys : List K) → AllByRecursion (λ later. n < rank later) keys → filter (λ key. not (nat_eq (rank key) n)) keys ≡ keys

@@ -1,12 +1,12 @@
 -- What the look-ups in the rows of a tree give.
-use Rattle.std.proofs.Common.{◌≡◌, ℕ, ◌+◌, Bool, true, false, cond, List, [], ◌∷◌, ◌++◌, map, filter, filter_map, length, drop, Option, None, Some, refl, sym, ap, ap₂, ◌∙◌, map-id, append-nil, zero-add, add_assoc, arith, add-one, sum_by, count_by}
+use Rattle.std.proofs.Common.{◌≡◌, Bool, List, [], ◌∷◌, ◌++◌, map, filter_map, length, drop, None, refl, ap, ap₂, ◌∙◌, map-id, append-nil}
 use Rattle.std.proofs.lemmas.List.{map-append}
 use Rattle.std.proofs.lemmas.List.Elements.{filter_map-append}
 use Rattle.svd_rows.specs.Elements.{element_at, IsDistinct}
 use Rattle.svd_rows.specs.Forest.{Forest, Tree, leaf, node, steps}
 use Rattle.svd_rows.specs.LookUps.{seen_below, inside, top_key, child_step, keys_of, children_of}
-use Rattle.svd_rows.specs.Paths.{IsSame, exactly, is_within}
-use Rattle.svd_rows.specs.Rows.{Row, Said, element, states, forest_rows, rows, own, under, under_path, is_element}
+use Rattle.svd_rows.specs.Paths.{IsSame, exactly}
+use Rattle.svd_rows.specs.Rows.{Row, states, forest_rows, rows, own, under, under_path}
 use Rattle.svd_rows.specs.Standing.{Stands}
 use Rattle.svd_rows.proofs.Adding.{filter-part, filter-none_there}
 use Rattle.svd_rows.proofs.Lists.{map-map, map_agree}

@@ -1,7 +1,6 @@
 -- Lists in which an item passes a test or none does, and what is added or exchanged there.
-use Rattle.std.proofs.Common.{◌≡◌, Bool, true, false, cond, not, ◌&&◌, ◌||◌, List, [], ◌∷◌, ◌++◌, map, filter, refl, sym, ap, ap₂, ◌∙◌, append-nil, append_assoc}
+use Rattle.std.proofs.Common.{◌≡◌, Bool, true, false, cond, not, ◌||◌, List, [], ◌∷◌, ◌++◌, filter, refl, sym, ap, ◌∙◌, append-nil, append_assoc}
 use Rattle.std.proofs.lemmas.Bool.{or_parts, cond-true, cond-false}
-use Rattle.std.proofs.lemmas.List.Elements.{filter-append}
 use Rattle.svd_rows.specs.RowEdits.{some_pass, added, exchanged}
 
 module _ {X : Type 0} where

@@ -1,5 +1,5 @@
 -- Keys that stand in places, one for each rank.
-use Rattle.std.proofs.Common.{◌≡◌, ℕ, ◌+◌, ◌<◌, ◌≤◌, Bool, true, false, cond, nat_lt, nat_eq, List, [], ◌∷◌, ◌++◌, set, length, Option, None, Some, refl, sym, ap, ap₂, ◌∙◌, subst, arith, lt-ltb, le-ltb, eq-eqb, ne_eqb, zero, suc, add-suc, suc-add, add-zero}
+use Rattle.std.proofs.Common.{◌≡◌, ℕ, ◌+◌, ◌<◌, ◌≤◌, cond, nat_eq, List, [], ◌∷◌, set, length, Option, None, Some, refl, sym, ap, ◌∙◌, subst, arith, lt-ltb, le-ltb, eq-eqb, ne_eqb, zero, suc, add-zero}
 use Rattle.std.specs.List.{AllByRecursion}
 use Rattle.svd_rows.specs.Ranks.{IsRanked, set_key, stated, IsPlaced}
 

@@ -1,11 +1,11 @@
 -- Renaming in the tree is a map of the rows' paths.
 use Rattle.std.proofs.Common.{◌≡◌, Bool, true, false, cond, List, [], ◌∷◌, ◌++◌, map, refl, sym, ap, ap₂, ◌∙◌, map-id}
 use Rattle.std.proofs.lemmas.List.{map-append}
-use Rattle.svd_rows.specs.Edits.{planted, in_children, within, renamed, with_renamed}
+use Rattle.svd_rows.specs.Edits.{in_children, within, renamed, with_renamed}
 use Rattle.svd_rows.specs.Forest.{Forest, Tree, leaf, node}
 use Rattle.svd_rows.specs.RowEdits.{renamed_path, moved}
-use Rattle.svd_rows.specs.Rows.{Row, Said, element, states, forest_rows, rows, own, under}
-use Rattle.svd_rows.proofs.Lists.{map-map, map_agree}
+use Rattle.svd_rows.specs.Rows.{Row, element, states, forest_rows, rows, own, under}
+use Rattle.svd_rows.proofs.Lists.{map-map}
 
 nowhere : {S : Type 0} (tests : List (S → Bool)) (new : S → S) → renamed_path tests new [] ≡ []
 unfolding renamed_path

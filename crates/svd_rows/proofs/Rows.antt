@@ -1,8 +1,8 @@
 -- The rows of siblings.
-use Rattle.std.proofs.Common.{◌≡◌, List, [], ◌∷◌, ◌++◌, map, refl, sym, ap, ◌∙◌, append_assoc}
+use Rattle.std.proofs.Common.{◌≡◌, ◌++◌, map, refl, sym, ap, ◌∙◌, append_assoc}
 use Rattle.svd_rows.specs.Forest.{Forest, Tree, leaf, node, join}
 use Rattle.svd_rows.specs.Edits.{planted}
-use Rattle.svd_rows.specs.Rows.{Row, forest_rows, rows, own, under}
+use Rattle.svd_rows.specs.Rows.{forest_rows, rows, own, under}
 
 pub forest_rows-join : {S K : Type 0} (f g : Forest S K) → forest_rows (join f g) ≡ forest_rows f ++ forest_rows g
 unfolding forest_rows join

@@ -1,6 +1,5 @@
 -- The rows of one element stand together, and an edit of the element changes them alone.
-use Rattle.std.proofs.Common.{◌≡◌, Bool, true, false, cond, ◌&&◌, ◌||◌, List, [], ◌∷◌, ◌++◌, map, filter, Option, None, Some, option_and_then, refl, sym, ap, ap₂, ◌∙◌, subst, map-id, append-nil, append_assoc}
-use Rattle.std.specs.List.{AllByRecursion}
+use Rattle.std.proofs.Common.{◌≡◌, Bool, true, false, cond, ◌&&◌, ◌||◌, List, [], ◌∷◌, ◌++◌, map, Option, None, Some, option_and_then, refl, sym, ap, ap₂, ◌∙◌, subst, append-nil, append_assoc}
 use Rattle.std.proofs.lemmas.List.{map-append}
 use Rattle.std.proofs.lemmas.Bool.{cond-true, cond-false}
 use Rattle.svd_rows.specs.Edits.{planted, in_children, within}
@@ -8,7 +7,7 @@ use Rattle.svd_rows.specs.Elements.{child_at, element_at, IsAbsent, IsDistinct}
 use Rattle.svd_rows.specs.Forest.{Forest, Tree, leaf, node, join, steps}
 use Rattle.svd_rows.specs.Paths.{IsSame, begins, exactly, is_within}
 use Rattle.svd_rows.specs.RowEdits.{some_pass}
-use Rattle.svd_rows.specs.Rows.{Row, Said, element, states, forest_rows, rows, own, under, under_path}
+use Rattle.svd_rows.specs.Rows.{Row, states, forest_rows, rows, own, under, under_path}
 use Rattle.svd_rows.specs.Standing.{Stands}
 use Rattle.svd_rows.proofs.Finding.{map-under_path, map-under_nothing}
 use Rattle.svd_rows.proofs.Passing.{some_pass-append}

@@ -1,5 +1,5 @@
 -- Edits of a tree, as the code makes them: at the elements that a chain of tests leads to.
-use Rattle.std.specs.Prelude.{Bool, true, false, cond, List, [], ◌∷◌, ◌++◌}
+use Rattle.std.specs.Prelude.{Bool, cond, List, [], ◌∷◌}
 use Rattle.svd_rows.specs.Forest.{Forest, Tree, leaf, node, join}
 
 -- the element under its step, before its later siblings

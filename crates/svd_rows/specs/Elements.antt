@@ -1,5 +1,5 @@
 -- The elements of a tree, by their paths.
-use Rattle.std.specs.Prelude.{◌≡◌, Bool, true, false, cond, ℕ, ◌+◌, List, [], ◌∷◌, ◌++◌, map, Option, None, Some, option_and_then, ⊤}
+use Rattle.std.specs.Prelude.{◌≡◌, Bool, false, cond, ℕ, ◌+◌, List, [], ◌∷◌, ◌++◌, map, Option, None, Some, option_and_then, ⊤}
 use Rattle.std.specs.List.{AllByRecursion}
 use Rattle.svd_rows.specs.Forest.{Forest, Tree, leaf, node, steps}
 

@@ -1,6 +1,6 @@
 -- The elements below an element, as first child and next sibling: what a description's tree is, whatever
 -- its steps and keys are.
-use Rattle.std.specs.Prelude.{List, [], ◌∷◌, ◌++◌}
+use Rattle.std.specs.Prelude.{List, [], ◌∷◌}
 
 -- no element; or an element with its step and its keys, the elements below it, and its later siblings
 pub data Forest (S K : Type 0) : Type 0 where

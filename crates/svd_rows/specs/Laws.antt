@@ -1,15 +1,15 @@
 -- What the laws of this crate say, each as one statement over all trees whose elements have steps of the
 -- type S and keys of the type K.
-use Rattle.std.specs.Prelude.{◌≡◌, ℕ, ◌+◌, ◌<◌, Bool, true, false, cond, List, [], ◌∷◌, ◌++◌, map, filter, flat_map, length, set, Option, Some, None}
-use Rattle.svd_rows.specs.Edits.{within, planted, replaced, without_children, with_renamed, with_children, with_replaced, with_keys}
+use Rattle.std.specs.Prelude.{◌≡◌, ℕ, ◌+◌, ◌<◌, Bool, List, [], ◌∷◌, ◌++◌, map, filter, flat_map, length, set, Option, Some, None}
+use Rattle.svd_rows.specs.Edits.{within, planted, without_children, with_renamed, with_children, with_replaced, with_keys}
 use Rattle.svd_rows.specs.Elements.{found, child_at, element_at, IsDistinct, count}
-use Rattle.svd_rows.specs.Forest.{Forest, Tree, leaf, node, join, steps}
+use Rattle.svd_rows.specs.Forest.{Forest, Tree, join, steps}
 use Rattle.svd_rows.specs.LookUps.{inside, keys_of, children_of, element_paths, is_element_of}
 use Rattle.svd_rows.specs.Paths.{IsSame, exactly, is_within}
 use Rattle.svd_rows.specs.Ranks.{IsRanked, IsPlaced, stated, set_key}
 use Rattle.svd_rows.specs.Reading.{tree_of}
 use Rattle.svd_rows.specs.RowEdits.{without, renamed_path, moved, added, exchanged, with_key}
-use Rattle.svd_rows.specs.Rows.{Row, forest_rows, rows, own, under, under_path, is_element}
+use Rattle.svd_rows.specs.Rows.{forest_rows, rows, under, under_path}
 use Rattle.svd_rows.specs.Standing.{Stands}
 
 -- ---- a tree and its rows

@@ -1,5 +1,5 @@
 -- What a flat list of rows tells of an element: what stands at or below its path, its keys, its children.
-use Rattle.std.specs.Prelude.{Bool, true, false, cond, ◌&&◌, List, [], ◌∷◌, map, filter, filter_map, length, drop, Option, None, Some}
+use Rattle.std.specs.Prelude.{Bool, false, ◌&&◌, List, [], ◌∷◌, map, filter, filter_map, length, drop, Option, None, Some}
 use Rattle.svd_rows.specs.Paths.{exactly, is_within, is_at}
 use Rattle.svd_rows.specs.Rows.{Row, Said, element, states, is_element}
 

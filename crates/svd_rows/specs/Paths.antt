@@ -1,7 +1,7 @@
 -- Paths of elements, and which rows stand at or below one: a path is read step by step, as a chain of
 -- tests (the patterns of a patch, or the steps of one path).
-use Rattle.std.specs.Prelude.{◌≡◌, Bool, true, false, ◌&&◌, List, [], ◌∷◌, ◌++◌, map}
-use Rattle.svd_rows.specs.Rows.{Row, Said, element, states}
+use Rattle.std.specs.Prelude.{◌≡◌, Bool, true, false, ◌&&◌, List, [], ◌∷◌, map}
+use Rattle.svd_rows.specs.Rows.{Row}
 
 -- the test tells whether two steps are the same
 pub record IsSame {S : Type 0} (same : S → S → Bool) : Type 0 where

@@ -1,7 +1,7 @@
 -- Edits of a flat list of rows: what is left out, what is renamed, what is added and where.
 use Rattle.std.specs.Prelude.{Bool, true, false, cond, not, ◌&&◌, ◌||◌, ℕ, nat_lt, nat_eq, List, [], ◌∷◌, ◌++◌, map, filter}
 use Rattle.svd_rows.specs.Rows.{Row, Said, element, states}
-use Rattle.svd_rows.specs.Paths.{begins, fits, is_within, is_at}
+use Rattle.svd_rows.specs.Paths.{is_within, is_at}
 
 -- one of the items passes the test
 unfoldable pub some_pass : {X : Type 0} → (X → Bool) → List X → Bool

@@ -1,6 +1,6 @@
 -- A small tree with its rows beside it, and what edits leave of them: steps and keys are numbers here.
-use Rattle.std.specs.Prelude.{◌≡◌, ℕ, Bool, nat_eq, List, [], ◌∷◌, refl}
-use Rattle.svd_rows.specs.Forest.{Forest, Tree, leaf, node, join}
+use Rattle.std.specs.Prelude.{◌≡◌, ℕ, nat_eq, List, [], ◌∷◌, refl}
+use Rattle.svd_rows.specs.Forest.{Tree, leaf, node}
 use Rattle.svd_rows.specs.Paths.{begins}
 use Rattle.svd_rows.specs.RowEdits.{some_pass, added, without}
 use Rattle.svd_rows.specs.Rows.{Row, Said, element, states, own, under, forest_rows, rows}
