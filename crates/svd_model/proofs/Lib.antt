@@ -1,3 +1,4 @@
 pub mod Copies
+pub mod Empty
 pub mod Nesting
 pub mod Trees

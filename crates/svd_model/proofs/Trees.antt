@@ -10,8 +10,8 @@ use Rattle.svd_model.specs.declared.device.Item.{Item, roll-Item}
 use Rattle.svd_model.specs.declared.device.Register.{Register as RegisterOf}
 use Rattle.svd_model.specs.Keys.{Key}
 use Rattle.svd_model.specs.Steps.{Step, Kind, cluster, register}
-use Rattle.svd_model.specs.Trees.{child_tree, cluster_tree, item_under, child_layer, cluster_layer, item_layer, register_tree, cluster_places, siblings, step_of}
-use Rattle.svd_rows.specs.Forest.{Tree}
+use Rattle.svd_model.specs.Trees.{child_tree, cluster_tree, item_under, child_layer, cluster_layer, item_layer, register_tree, cluster_places, step_of}
+use Rattle.svd_rows.specs.Forest.{Tree, siblings}
 use Rattle.svd_rows.specs.Ranks.{stated}
 
 pub child_tree-cluster : (element : ClusterOf) → child_tree (Cluster element) ≡ (cluster, cluster_tree element)

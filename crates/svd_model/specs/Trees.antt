@@ -17,7 +17,7 @@ use Rattle.svd_model.specs.declared.props.Props.{Props}
 use Rattle.svd_model.specs.declared.sibling.Sibling.{Sibling}
 use Rattle.svd_model.specs.Keys.{Key, device_name, derived_from, dim_count, dim_increment, dim_index, base_address, at_offset, bit_width, alternate_of, alternate_group, register_size, register_access, reset_value, reset_mask, write_kind, read_action, value_usage, enumerated_value}
 use Rattle.svd_model.specs.Steps.{Step, Kind, peripheral, cluster, register, field, set, value}
-use Rattle.svd_rows.specs.Forest.{Forest, Tree, leaf, node, grow}
+use Rattle.svd_rows.specs.Forest.{Forest, Tree, leaf, node, siblings}
 use Rattle.svd_rows.specs.Ranks.{stated}
 use Rattle.svd_rows.specs.Rows.{Row, rows}
 
@@ -63,10 +63,6 @@ value_places element =
 -- the step of an element under its key
 abbrev pub step_of : Kind → Sibling → Step
 step_of kind key = record { kind = kind; name = key.name; number = key.number }
-
--- siblings with their steps, in their order
-unfoldable pub siblings : List (Step × Tree Step Key) → Forest Step Key
-siblings elements = grow (λ element. element.0) (λ element. element.1) elements
 
 -- siblings that are told apart by their places, counted from this number on
 unfoldable pub numbered : Kind → ℕ → List (List ℕ × Tree Step Key) → Forest Step Key

@@ -9,6 +9,8 @@ mod facts;
 mod props;
 mod sibling;
 mod states;
+#[cfg(test)]
+mod tests;
 
 pub use device::{Child, Cluster, Device, Dim, Field, Item, Peripheral, Register, Values, Variant};
 pub use facts::{FieldFacts, RegisterFacts};

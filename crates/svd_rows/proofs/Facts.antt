@@ -3,7 +3,7 @@ use Rattle.std.proofs.Common.{◌≡◌, ℕ, ◌+◌, Bool, true, false, cond, 
 use Rattle.std.specs.List.{AllByRecursion, IsDistinct as AreDistinct}
 use Rattle.svd_rows.specs.Edits.{planted, in_children, replaced, renamed}
 use Rattle.svd_rows.specs.Elements.{IsAbsent, IsDistinct, Every, count}
-use Rattle.svd_rows.specs.Forest.{Forest, Tree, leaf, node, join, grow, steps}
+use Rattle.svd_rows.specs.Forest.{Forest, Tree, leaf, node, join, steps}
 
 all-append : {X : Type 0} (P : X → Type 0) (xs ys : List X) → AllByRecursion P xs → AllByRecursion P ys → AllByRecursion P (xs ++ ys)
 all-append P [] ys h k = k
@@ -124,33 +124,3 @@ module _ {S K : Type 0} where
     where
       sums : (a b c d : ℕ) → a + (b + (c + d)) ≡ (a + (b + c)) + d
       sums a b c d = omega arith
-
--- ---- the siblings that a list stands for
-
-pub steps-grow : {A S K : Type 0} (step : A → S) (tree : A → Tree S K) (xs : List A) → steps (grow step tree xs) ≡ map step xs
-unfolding steps grow
-steps-grow step tree [] = refl
-steps-grow step tree (x ∷ xs) = ap (λ r. step x ∷ r) (steps-grow step tree xs)
-
-pub grow-append : {A S K : Type 0} (step : A → S) (tree : A → Tree S K) (xs ys : List A) → grow step tree (xs ++ ys) ≡ join (grow step tree xs) (grow step tree ys)
-unfolding grow join
-grow-append step tree [] ys = refl
-grow-append step tree (x ∷ xs) ys = ap (planted (step x) (tree x)) (grow-append step tree xs ys)
-
-pub Every-grow : {A S K : Type 0} (P : S → List K → Type 0) (step : A → S) (tree : A → Tree S K) (xs : List A) → AllByRecursion (λ x. P (step x) (tree x).keys × Every P (tree x).below) xs → Every P (grow step tree xs)
-unfolding Every grow
-Every-grow P step tree [] h = tt
-Every-grow P step tree (x ∷ xs) h = (h.0.0, h.0.1, Every-grow P step tree xs h.1)
-
-pub IsDistinct-grow : {A S K : Type 0} (same : S → S → Bool) (step : A → S) (tree : A → Tree S K) (xs : List A) → AreDistinct same (map step xs) → AllByRecursion (λ x. IsDistinct same (tree x).below) xs → IsDistinct same (grow step tree xs)
-unfolding IsDistinct AreDistinct grow
-IsDistinct-grow same step tree [] h k = tt
-IsDistinct-grow same step tree (x ∷ xs) h k = (
-  subst (λ all. AllByRecursion (λ other. same (step x) other ≡ false) all) (sym (steps-grow step tree xs)) h.0,
-  k.0,
-  IsDistinct-grow same step tree xs h.1 k.1,
-)
-
-pub count-grow : {A S K : Type 0} (test : S → Bool) (step : A → S) (tree : A → Tree S K) (x : A) (xs : List A) → count test (grow step tree (x ∷ xs)) ≡ cond (test (step x)) 1 0 + (count test (tree x).below + count test (grow step tree xs))
-unfolding count grow
-count-grow test step tree x xs = refl

@@ -12,4 +12,5 @@ pub mod Places
 pub mod Reading
 pub mod Renaming
 pub mod Rows
+pub mod Siblings
 pub mod Standing

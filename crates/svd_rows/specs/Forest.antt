@@ -15,14 +15,14 @@ pub record Tree (S K : Type 0) : Type 0 where
 -- the elements of the first, then those of the second, all siblings
 unfoldable pub join : {S K : Type 0} → Forest S K → Forest S K → Forest S K
 join leaf g = g
-join (node step keys children siblings) g = node step keys children (join siblings g)
+join (node step keys children others) g = node step keys children (join others g)
 
--- the siblings that a list of things stands for, one for each thing
-unfoldable pub grow : {A S K : Type 0} → (A → S) → (A → Tree S K) → List A → Forest S K
-grow step tree [] = leaf
-grow step tree (x ∷ xs) = node (step x) (tree x).keys (tree x).below (grow step tree xs)
+-- the elements of a list, each under its step, all siblings
+unfoldable pub siblings : {S K : Type 0} → List (S × Tree S K) → Forest S K
+siblings [] = leaf
+siblings (element ∷ others) = node element.0 element.1.keys element.1.below (siblings others)
 
 -- the steps of the siblings, in their order
 unfoldable pub steps : {S K : Type 0} → Forest S K → List S
 steps leaf = []
-steps (node step keys children siblings) = step ∷ steps siblings
+steps (node step keys children others) = step ∷ steps others
