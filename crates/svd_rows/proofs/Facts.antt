@@ -114,6 +114,17 @@ module _ {S K : Type 0} where
       cases true rest apart = rest
       cases false rest apart = (apart, h.1, rest)
 
+  -- siblings that a coarser test tells apart are told apart by a finer one
+  pub IsDistinct-finer : (same finer : S → S → Bool) → ((step other : S) → same step other ≡ false → finer step other ≡ false) → (f : Forest S K) → IsDistinct same f → IsDistinct finer f
+  unfolding IsDistinct
+  IsDistinct-finer same finer less leaf h = tt
+  IsDistinct-finer same finer less (node s ks c n) h =
+      (apart (steps n) h.0, IsDistinct-finer same finer less c h.1, IsDistinct-finer same finer less n h.2)
+    where
+    apart : (others : List S) → AllByRecursion (λ other. same s other ≡ false) others → AllByRecursion (λ other. finer s other ≡ false) others
+    apart [] k = tt
+    apart (other ∷ others) k = (less s other k.0, apart others k.1)
+
   -- ---- how many
 
   pub count-join : (test : S → Bool) (f g : Forest S K) → count test (join f g) ≡ count test f + count test g

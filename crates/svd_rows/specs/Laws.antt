@@ -1,9 +1,9 @@
 -- What the laws of this crate say, each as one statement over all trees whose elements have steps of the
 -- type S and keys of the type K.
-use Rattle.std.specs.Prelude.{◌≡◌, ℕ, ◌+◌, ◌<◌, Bool, List, [], ◌∷◌, ◌++◌, map, filter, flat_map, length, set, Option, Some, None}
-use Rattle.svd_rows.specs.Edits.{within, planted, without_children, with_renamed, with_children, with_replaced, with_keys}
+use Rattle.std.specs.Prelude.{◌≡◌, ℕ, ◌+◌, ◌<◌, Bool, cond, not, List, [], ◌∷◌, ◌++◌, map, filter, flat_map, length, set, Option, Some, None}
+use Rattle.svd_rows.specs.Edits.{within, in_children, planted, replaced, renamed, without_children, with_renamed, with_children, with_replaced, with_keys}
 use Rattle.svd_rows.specs.Elements.{found, child_at, element_at, IsDistinct, count}
-use Rattle.svd_rows.specs.Forest.{Forest, Tree, join, steps}
+use Rattle.svd_rows.specs.Forest.{Forest, Tree, leaf, join, siblings, steps}
 use Rattle.svd_rows.specs.LookUps.{inside, keys_of, children_of, element_paths, is_element_of}
 use Rattle.svd_rows.specs.Paths.{IsSame, exactly, is_within}
 use Rattle.svd_rows.specs.Ranks.{IsRanked, IsPlaced, stated, set_key}
@@ -109,3 +109,29 @@ PlacedIsRanked K = (rank : K → ℕ) (first : ℕ) (places : List (Option K)) �
 abbrev pub PuttingIsSetting : (K : Type 0) → Type 0
 PuttingIsSetting K =
     (rank : K → ℕ) (first : ℕ) (new : K) (places : List (Option K)) (n : ℕ) → IsPlaced rank first places → n < length places → rank new ≡ first + n → stated (set places n (Some new)) ≡ set_key rank new (stated places)
+
+-- ---- siblings in a list
+
+-- an edit of the children that pass a test is one of each element of the list
+abbrev pub EditOfEach : (S K : Type 0) → Type 0
+EditOfEach S K =
+    (test : S → Bool) (edit : Tree S K → Tree S K) (list : List (S × Tree S K)) → in_children test edit (siblings list) ≡ siblings (map (λ x. (x.0, cond (test x.0) (edit x.1) x.1)) list)
+
+-- children that are taken away are taken out of the list
+abbrev pub DeletionOfEach : (S K : Type 0) → Type 0
+DeletionOfEach S K =
+    (test : S → Bool) (list : List (S × Tree S K)) → replaced test (λ step child. leaf) (siblings list) ≡ siblings (filter (λ x. not (test x.0)) list)
+
+-- children that are replaced by others are so in the list
+abbrev pub ReplacementOfEach : (S K : Type 0) → Type 0
+ReplacementOfEach S K =
+    (test : S → Bool) (made : S → Tree S K → List (S × Tree S K)) (list : List (S × Tree S K)) → replaced test (λ step child. siblings (made step child)) (siblings list) ≡ siblings (flat_map (λ x. cond (test x.0) (made x.0 x.1) (x ∷ [])) list)
+
+-- children under other steps are so in the list
+abbrev pub RenamingOfEach : (S K : Type 0) → Type 0
+RenamingOfEach S K =
+    (new : S → S) (list : List (S × Tree S K)) → renamed new (siblings list) ≡ siblings (map (λ x. (new x.0, x.1)) list)
+
+-- children that are added stand at the end of the list
+abbrev pub AdditionOfEach : (S K : Type 0) → Type 0
+AdditionOfEach S K = (list more : List (S × Tree S K)) → siblings (list ++ more) ≡ join (siblings list) (siblings more)

@@ -1,5 +1,5 @@
 // The laws that join a tree and its flat list of rows, for steps of a type `S` and keys of a type `K`.
-ghost use Rattle.svd_rows.specs.Laws.{RowsOfSiblings, RowsOfElement, RowsSpellTree, EqualRowsEqualTrees, CountIsElementRows, RowsOfFound, PathsOfFound, KeysOfRows, ChildrenOfRows, DeletionIsFilter, RenamingIsMap, PathNamesOne, RowsInside, NoneInside, AdditionIsBehind, ReplacementIsExchange, SettingIsReplacement, PlacedIsRanked, PuttingIsSetting};
+ghost use Rattle.svd_rows.specs.Laws.{RowsOfSiblings, RowsOfElement, RowsSpellTree, EqualRowsEqualTrees, CountIsElementRows, RowsOfFound, PathsOfFound, KeysOfRows, ChildrenOfRows, DeletionIsFilter, RenamingIsMap, PathNamesOne, RowsInside, NoneInside, AdditionIsBehind, ReplacementIsExchange, SettingIsReplacement, PlacedIsRanked, PuttingIsSetting, EditOfEach, DeletionOfEach, ReplacementOfEach, RenamingOfEach, AdditionOfEach};
 
 /// The rows of a tree are those of its elements in document order, and they say all that the tree says.
 pub fn rows_law<S, K>()
@@ -40,3 +40,13 @@ pub fn ranks_law<K>()
     ensures ranked { PlacedIsRanked K }
     ensures setting { PuttingIsSetting K }
 {}
+
+/// Where siblings stand in a list, what is done to the list is done to them.
+pub fn lists_law<S, K>()
+    ensures edit { EditOfEach S K }
+    ensures deletion { DeletionOfEach S K }
+    ensures replacement { ReplacementOfEach S K }
+    ensures renaming { RenamingOfEach S K }
+    ensures addition { AdditionOfEach S K }
+{
+}

@@ -4,4 +4,4 @@
 
 mod laws;
 
-pub use laws::{edits_law, look_ups_law, paths_law, ranks_law, rows_law};
+pub use laws::{edits_law, lists_law, look_ups_law, paths_law, ranks_law, rows_law};
