@@ -21,8 +21,8 @@ unfolding same_step
 same_step-tells = record {
   itself = λ step.
       and_from (same_kind step.kind step.kind) (bytes_eq step.name step.name && nat_eq step.number step.number)
-        (eq-eqb (kind_number step.kind) (kind_number step.kind) refl)
-        (and_from (bytes_eq step.name step.name) (nat_eq step.number step.number) ((bytes_decides step.name step.name).1 refl) (eq-eqb step.number step.number refl));
+      (eq-eqb (kind_number step.kind) (kind_number step.kind) refl)
+      (and_from (bytes_eq step.name step.name) (nat_eq step.number step.number) ((bytes_decides step.name step.name).1 refl) (eq-eqb step.number step.number refl));
   alone = λ step other e.
       let parts = and_parts (same_kind step.kind other.kind) (bytes_eq step.name other.name && nat_eq step.number other.number) e in
       let rest = and_parts (bytes_eq step.name other.name) (nat_eq step.number other.number) parts.1 in

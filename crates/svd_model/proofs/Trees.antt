@@ -67,3 +67,21 @@ cluster_tree-same made element derived dim offset alternate props children =
 pub item_under-same : (made : Item-F Child ClusterOf Item) (item : Item) → made.key ≡ item.key → child_tree made.child ≡ child_tree item.child → item_under (roll-Item made) ≡ item_under item
 item_under-same made item key child =
     item_under-roll made ∙ ap₂ (λ k t. (step_of t.0 k, t.1)) key child ∙ sym (item_under-is item)
+
+-- a cluster with other children has its keys
+pub cluster_tree-with_children : (made : Cluster-F Child ClusterOf Item) (element : ClusterOf) → made.derived ≡ (out-Cluster element).derived → made.dim ≡ (out-Cluster element).dim → made.offset ≡ (out-Cluster element).offset → made.alternate ≡ (out-Cluster element).alternate → made.props ≡ (out-Cluster element).props → cluster_tree (roll-Cluster made) ≡ record { keys = (cluster_tree element).keys; below = siblings (map item_under made.children.items) }
+cluster_tree-with_children made element derived dim offset alternate props =
+    cluster_tree-roll made
+    ∙ ap (λ places. record { keys = stated places; below = siblings (map item_under made.children.items) }) (cluster_places-same made (out-Cluster element) derived dim offset alternate props)
+    ∙ sym (ap (λ (tree : Tree Step Key). record { keys = tree.keys; below = siblings (map item_under made.children.items) }) (cluster_tree-is element))
+
+-- the children of a cluster
+pub cluster_tree-below : (element : ClusterOf) → (cluster_tree element).below ≡ siblings (map item_under (out-Cluster element).children.items)
+cluster_tree-below element = ap (λ (tree : Tree Step Key). tree.below) (cluster_tree-is element)
+
+-- the step of a child has the name and the number of its key
+pub item_under-name : (item : Item) → (item_under item).0.name ≡ item.key.name
+item_under-name item = ap (λ (x : Step × Tree Step Key). x.0.name) (item_under-is item)
+
+pub item_under-number : (item : Item) → (item_under item).0.number ≡ item.key.number
+item_under-number item = ap (λ (x : Step × Tree Step Key). x.0.number) (item_under-is item)

@@ -121,9 +121,9 @@ module _ {S K : Type 0} where
   IsDistinct-finer same finer less (node s ks c n) h =
       (apart (steps n) h.0, IsDistinct-finer same finer less c h.1, IsDistinct-finer same finer less n h.2)
     where
-    apart : (others : List S) → AllByRecursion (λ other. same s other ≡ false) others → AllByRecursion (λ other. finer s other ≡ false) others
-    apart [] k = tt
-    apart (other ∷ others) k = (less s other k.0, apart others k.1)
+      apart : (others : List S) → AllByRecursion (λ other. same s other ≡ false) others → AllByRecursion (λ other. finer s other ≡ false) others
+      apart [] k = tt
+      apart (other ∷ others) k = (less s other k.0, apart others k.1)
 
   -- ---- how many
 

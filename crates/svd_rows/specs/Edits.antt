@@ -20,6 +20,15 @@ within [] edit tree = edit tree
 within (test ∷ tests) edit tree =
     record { keys = tree.keys; below = in_children test (within tests edit) tree.below }
 
+-- an edit of an element that leaves its keys
+abbrev pub on_children : {S K : Type 0} → (Forest S K → Forest S K) → Tree S K → Tree S K
+on_children edit tree = record { keys = tree.keys; below = edit tree.below }
+
+-- the siblings, where the children of each element to which the tests lead from them are edited
+unfoldable pub among : {S K : Type 0} → List (S → Bool) → (Forest S K → Forest S K) → Forest S K → Forest S K
+among [] edit siblings = edit siblings
+among (test ∷ tests) edit siblings = in_children test (on_children (among tests edit)) siblings
+
 -- the siblings in whose place, where one passes the test, stand those that are made of it
 unfoldable pub replaced : {S K : Type 0} → (S → Bool) → (S → Tree S K → Forest S K) → Forest S K → Forest S K
 replaced test made leaf = leaf

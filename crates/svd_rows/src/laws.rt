@@ -48,5 +48,4 @@ pub fn lists_law<S, K>()
     ensures replacement { ReplacementOfEach S K }
     ensures renaming { RenamingOfEach S K }
     ensures addition { AdditionOfEach S K }
-{
-}
+{}
