@@ -1,15 +1,13 @@
 -- The tree of a vendor's file with its rows beside it: a device of two timers, the second derived from the
 -- first; and the tree of one of its fields, made of the declared types.
-use Rattle.std.specs.Prelude.{◌≡◌, ℕ, List, [], ◌∷◌, ◌++◌, map, codes, Option, Some, None, refl}
-use Rattle.pac_base.specs.declared.path.Step.{Step as PathStep}
+use Rattle.std.specs.Prelude.{◌≡◌, ℕ, List, [], ◌∷◌, ◌++◌, map, codes, Some, None, refl}
 use Rattle.svd_model.specs.declared.device.Field.{Field}
-use Rattle.svd_model.specs.declared.device.Values.{Values}
 use Rattle.svd_model.specs.Keys.{Key, device_name, derived_from, base_address, at_offset, bit_width, register_size, register_access, reset_value, reset_mask, enumerated_value}
-use Rattle.svd_model.specs.Steps.{Step, Kind, peripheral, cluster, register, field, set, value}
-use Rattle.svd_model.specs.Trees.{numbered, field_tree, field_places, set_tree}
-use Rattle.svd_rows.specs.Forest.{Forest, Tree, leaf, node, siblings}
+use Rattle.svd_model.specs.Steps.{Step, Kind, peripheral, register, field, set, value}
+use Rattle.svd_model.specs.Trees.{field_places}
+use Rattle.svd_rows.specs.Forest.{Forest, Tree, leaf, node}
 use Rattle.svd_rows.specs.Ranks.{stated}
-use Rattle.svd_rows.specs.Rows.{Row, Said, element, states, own, under, forest_rows, rows}
+use Rattle.svd_rows.specs.Rows.{Row, element, states, own, under, forest_rows, rows}
 use Rattle.svd_values.specs.declared.schema_word.Access.TheVariants.{ReadWrite}
 
 abbrev step : Kind → List ℕ → Step

@@ -1,7 +1,7 @@
 -- What holds of each element, that siblings are distinct, and how many elements there are, after edits.
 use Rattle.std.proofs.Common.{◌≡◌, ℕ, ◌+◌, Bool, true, false, cond, List, [], ◌∷◌, ◌++◌, map, refl, sym, ap, ◌∙◌, subst, arith, zero-add}
-use Rattle.std.specs.List.{AllByRecursion, IsDistinct as AreDistinct}
-use Rattle.svd_rows.specs.Edits.{planted, in_children, replaced, renamed}
+use Rattle.std.specs.List.{AllByRecursion}
+use Rattle.svd_rows.specs.Edits.{in_children, replaced, renamed}
 use Rattle.svd_rows.specs.Elements.{IsAbsent, IsDistinct, Every, count}
 use Rattle.svd_rows.specs.Forest.{Forest, Tree, leaf, node, join, steps}
 

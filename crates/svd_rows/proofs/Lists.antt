@@ -1,6 +1,6 @@
 -- Lemmas on lists: filters, maps, and what stands after the last or in the place of what passes a test.
 use Rattle.std.proofs.lemmas.List.{take_more_set, take_more, map-append}
-use Rattle.std.proofs.Common.{◌++◌, ap₂, ℕ, ◌+◌, ◌<◌, take, set, get_or, length, ◌≡◌, Bool, true, false, cond, List, [], ◌∷◌, map, filter, refl, ap, ◌∙◌}
+use Rattle.std.proofs.Common.{sym, ◌++◌, ap₂, ℕ, ◌+◌, ◌<◌, take, set, get_or, length, ◌≡◌, Bool, true, false, cond, List, [], ◌∷◌, map, filter, refl, ap, ◌∙◌}
 
 pub filter-map : {X Y : Type 0} (p : Y → Bool) (f : X → Y) (xs : List X) → filter p (map f xs) ≡ map f (filter (λ x. p (f x)) xs)
 filter-map p f [] = refl

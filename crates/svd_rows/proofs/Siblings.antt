@@ -1,8 +1,8 @@
 -- Siblings that stand in a list: what is done to the list is done to them.
-use Rattle.std.proofs.Common.{◌≡◌, ℕ, ◌+◌, Bool, true, false, cond, not, List, [], ◌∷◌, ◌++◌, map, filter, flat_map, refl, sym, ap, ap₂, ◌∙◌, subst}
+use Rattle.std.proofs.Common.{◌≡◌, ◌+◌, Bool, true, false, cond, not, List, [], ◌∷◌, ◌++◌, map, filter, flat_map, refl, sym, ap, ap₂, ◌∙◌, subst}
 use Rattle.std.specs.List.{AllByRecursion, IsDistinct as AreDistinct}
 use Rattle.svd_rows.specs.Edits.{planted, in_children, within, on_children, among, replaced, renamed}
-use Rattle.svd_rows.specs.Elements.{IsAbsent, IsDistinct, Every, count}
+use Rattle.svd_rows.specs.Elements.{IsDistinct, Every, count}
 use Rattle.svd_rows.specs.Forest.{Forest, Tree, leaf, node, join, siblings, steps}
 
 module _ {S K : Type 0} where
