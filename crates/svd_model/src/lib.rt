@@ -1,0 +1,19 @@
+// The tree of a description: a device of peripherals, these of clusters and registers, these of fields
+// with their enumerated values. Its typed states, each of which contracts see as a flat list of rows, and
+// the properties that hold at a register and at a field.
+#![tactic(auto)]
+
+mod copy;
+mod device;
+mod facts;
+mod props;
+mod sibling;
+mod states;
+#[cfg(test)]
+mod tests;
+
+pub use device::{Child, Cluster, Device, Dim, Field, Item, Peripheral, Register, Values, Variant};
+pub use facts::{FieldFacts, RegisterFacts};
+pub use props::{Props, properties_law};
+pub use sibling::Sibling;
+pub use states::{Checked, Derived, Described, Patched, Unfolded};

@@ -1,0 +1,16 @@
+pub mod Adding
+pub mod Counting
+pub mod Deleting
+pub mod Exchanging
+pub mod Facts
+pub mod Finding
+pub mod Keys
+pub mod Lists
+pub mod LookUps
+pub mod Passing
+pub mod Places
+pub mod Reading
+pub mod Renaming
+pub mod Rows
+pub mod Siblings
+pub mod Standing

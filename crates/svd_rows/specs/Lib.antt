@@ -1,0 +1,12 @@
+pub mod Edits
+pub mod Elements
+pub mod Forest
+pub mod Laws
+pub mod LookUps
+pub mod Paths
+pub mod Ranks
+pub mod Reading
+pub mod RowEdits
+pub mod Rows
+pub mod Standing
+pub mod Worked
