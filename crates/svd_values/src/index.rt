@@ -120,7 +120,10 @@ fn is_white(byte: u8) -> bool
 // where it begins with anything else.
 #[tactic(auto, unfolding(crate::specs::Readers::skip_white))]
 fn behind_comma(text: &[u8]) -> Result<Option<&[u8]>, IndexFault>
-    ensures { MatchResult result (λ next. MatchOption next (text.now ≡ []) (λ rest. rest.now ≡ skip_white (drop 1 text.now) × (slice_get text.now 0 ≡ Some 44))) (λ fault. (fault ≡ IndexFault.NotAnIndex) × (text.now ≢ []) × (slice_get text.now 0 ≢ Some 44)) }
+    ensures { MatchResult result
+        (λ next. MatchOption next (text.now ≡ [])
+        (λ rest. rest.now ≡ skip_white (drop 1 text.now) × (slice_get text.now 0 ≡ Some 44)))
+        (λ fault. (fault ≡ IndexFault.NotAnIndex) × (text.now ≢ []) × (slice_get text.now 0 ≢ Some 44)) }
 {
     match text {
         [] => Ok(None),
@@ -132,7 +135,9 @@ fn behind_comma(text: &[u8]) -> Result<Option<&[u8]>, IndexFault>
 // The name that the word at the front of a list is.
 fn first_name(alloc: Global, word: &[u8]) -> Result<Name, IndexFault>
     requires { IsWord word.now }
-    ensures { MatchResult result (λ name. (name ≡ word.now) × IsFullWord word.now) (λ fault. fault ≡ IndexFault.NotAnIndex → word.now ≡ []) }
+    ensures { MatchResult result
+        (λ name. (name ≡ word.now) × IsFullWord word.now)
+        (λ fault. fault ≡ IndexFault.NotAnIndex → word.now ≡ []) }
 {
     if word.is_empty() {
         return Err(IndexFault::NotAnIndex);
@@ -142,7 +147,8 @@ fn first_name(alloc: Global, word: &[u8]) -> Result<Name, IndexFault>
 
 // The words of a list.
 fn words(alloc: Global, text: &[u8]) -> Result<Words, IndexFault>
-    ensures { MatchResult result (IsWordList text.now) (λ fault. fault ≡ IndexFault.NotAnIndex → (words : List (List ℕ)) → ¬ (IsWordList text.now words)) }
+    ensures { MatchResult result (IsWordList text.now)
+        (λ fault. fault ≡ IndexFault.NotAnIndex → (words : List (List ℕ)) → ¬ (IsWordList text.now words)) }
 {
     let mut words = Words::new(alloc);
     let mut rest = text;

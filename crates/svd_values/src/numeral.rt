@@ -37,7 +37,10 @@ impl Digits {
 
     // The value with one more digit behind it.
     fn behind(self, value: u64, byte: u8) -> Option<u64>
-        ensures { MatchOption result ((base_of self ≤ digit_of self byte) ⊎ (2 ^ 64 ≤ value * base_of self + digit_of self byte)) (λ next. (digit_of self byte < base_of self) × (next ≡ value * base_of self + digit_of self byte) × (next < 2 ^ 64)) }
+        ensures { let sum = value * base_of self + digit_of self byte in
+            MatchOption result
+            ((base_of self ≤ digit_of self byte) ⊎ (2 ^ 64 ≤ sum))
+            (λ next. (digit_of self byte < base_of self) × (next ≡ sum) × (next < 2 ^ 64)) }
     {
         let digit = self.digit(byte)?;
         let shifted = value.checked_mul(u64::from(self.base()))?;
