@@ -9,6 +9,8 @@ mod name;
 mod path;
 mod seq;
 mod span;
+#[cfg(test)]
+mod tests;
 mod text;
 mod width;
 
