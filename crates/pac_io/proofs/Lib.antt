@@ -1,0 +1,2 @@
+pub mod WrittenUpTo
+pub mod HexadecimalDigits

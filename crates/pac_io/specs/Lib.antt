@@ -1,0 +1,11 @@
+pub mod Rose
+pub mod Reading
+pub mod Asking
+pub mod WrittenUpTo
+pub mod Writing
+pub mod Numerals
+pub mod Calls
+pub mod MemFiles
+pub mod MemSink
+pub mod StdFiles
+pub mod StdSink
