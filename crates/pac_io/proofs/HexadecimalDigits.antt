@@ -1,5 +1,5 @@
 -- Hexadecimal digits, from the last one to the first.
-use Rattle.std.proofs.Common.{◌≡◌, ℕ, suc, zero, ◌+◌, ◌-◌, ◌/◌, ◌%◌, ◌<◌, ◌≤◌, Bool, true, false, cond, List, [], ◌∷◌, ◌++◌, take, replicate, refl, ap, ◌∙◌, nat_eq, eq-eqb, ne_eqb, arith}
+use Rattle.std.proofs.Common.{◌≡◌, ℕ, suc, zero, ◌-◌, ◌/◌, ◌%◌, ◌<◌, ◌≤◌, Bool, true, false, cond, List, [], ◌∷◌, ◌++◌, take, replicate, refl, ap, ◌∙◌, nat_eq, eq-eqb, ne_eqb, arith}
 use Rattle.std.proofs.Math.ListN.{length, drop, set, length-set}
 use Rattle.std.proofs.Math.Seq.{drop-cons, get_or-set_same, drop-set-lt}
 use Rattle.std.proofs.lemmas.List.{take-replicate}

@@ -8,6 +8,7 @@ abbrev pub and_asked : Option (List (List ℕ)) → List ℕ → Option (List (L
 and_asked None name = None
 and_asked (Some names) name = Some (names ++ name ∷ [])
 
+-- what a fault says of the names, before and now
 abbrev pub AskedAtFault : FilesFault → Option (List (List ℕ)) → Option (List (List ℕ)) → List ℕ → Type 0
 AskedAtFault Failed before now name = now ≡ and_asked before name
 AskedAtFault (TooLong kept) before now name = now ≡ and_asked before name

@@ -19,6 +19,7 @@ names_asked held = held.asked.items
 abbrev pub has_to_fail : MemFiles → List ℕ → Bool
 has_to_fail held name = fails_next held.calls || is_none (file_at held name)
 
+-- which faults agree with it that the read has to fail
 abbrev pub FaultWhere : Bool → FilesFault → Type 0
 FaultWhere fails Failed = fails ≡ true
 FaultWhere fails (TooLong kept) = fails ≡ false

@@ -3,12 +3,13 @@ use Rattle.std.specs.Prelude.{ℕ, ◌≡◌, List, [], ◌∷◌, ◌++◌, Res
 use Rattle.pac_io.specs.declared.mem_sink.MemSink.{MemSink}
 use Rattle.pac_io.specs.declared.fault.SinkFault.{SinkFault}
 use Rattle.pac_io.specs.declared.fault.SinkFault.TheVariants.{Failed, Memory}
-use Rattle.pac_io.specs.Calls.{listed, next_number, fails_next, IsFresh, SameCalls}
+use Rattle.pac_io.specs.Calls.{listed, next_number, IsFresh, SameCalls}
 
 -- the bytes written so far
 abbrev pub bytes_written : MemSink → List ℕ
 bytes_written held = held.bytes.items
 
+-- which faults agree with it that the write is listed to fail
 abbrev pub FaultWhere : Bool → SinkFault → Type 0
 FaultWhere fails Failed = fails ≡ true
 FaultWhere fails Memory = ⊤

@@ -1,5 +1,5 @@
 -- What a read of a file answers, case by case.
-use Rattle.std.specs.Prelude.{ℕ, ◌≡◌, ◌≤◌, ◌<◌, List, length, Option, Some, None, IfSome, IsSomeAnd, Result, Ok, Err, ⊤}
+use Rattle.std.specs.Prelude.{ℕ, ◌≡◌, ◌≤◌, ◌<◌, List, length, Option, Some, IfSome, IsSomeAnd, Result, Ok, Err, ⊤}
 use Rattle.pac_io.specs.declared.fault.FilesFault.{FilesFault}
 use Rattle.pac_io.specs.declared.fault.FilesFault.TheVariants.{Failed, TooLong, Memory}
 use Rattle.pac_io.specs.Rose.{Rose}
@@ -14,6 +14,7 @@ pub record PassesLimit (told : Option (List ℕ → Option (List ℕ))) (name : 
   pub kept_limit : kept ≡ limit
   pub longer : IfSome told (λ files. IsSomeAnd (files name) (λ bytes. limit < length bytes))
 
+-- what a fault says of the file
 abbrev pub RefusedBy : Option (List ℕ → Option (List ℕ)) → List ℕ → ℕ → FilesFault → Type 0
 RefusedBy told name limit Failed = ⊤
 RefusedBy told name limit (TooLong kept) = PassesLimit told name limit kept
@@ -24,6 +25,7 @@ abbrev pub ReadsFile : Option (List ℕ → Option (List ℕ)) → List ℕ → 
 ReadsFile told name limit (Ok bytes) = GivesFile told name limit bytes
 ReadsFile told name limit (Err fault) = RefusedBy told name limit fault
 
+-- what a fault says of the count of faults, before and now
 abbrev pub FaultCause : FilesFault → ℕ → ℕ → Type 0
 FaultCause Failed before now = Rose before now
 FaultCause (TooLong kept) before now = now ≡ before

@@ -1,5 +1,5 @@
 -- What a write to a sink answers, case by case.
-use Rattle.std.specs.Prelude.{ℕ, ◌≡◌, List, ◌++◌, Option, Result, Ok, Err}
+use Rattle.std.specs.Prelude.{ℕ, ◌≡◌, List, Option, Result, Ok, Err}
 use Rattle.std.specs.Io.KnownBytes.{Appends}
 use Rattle.pac_io.specs.declared.fault.SinkFault.{SinkFault}
 use Rattle.pac_io.specs.declared.fault.SinkFault.TheVariants.{Failed, Memory}
@@ -21,6 +21,7 @@ abbrev pub WritesUpTo : {T : Type 0} → Result T SinkFault → Option (List ℕ
 WritesUpTo (Ok value) old now bytes rest = WrittenUpTo old now bytes rest
 WritesUpTo (Err fault) old now bytes rest = AppendsPrefix old now bytes
 
+-- what a fault says of the count of faults, before and now
 abbrev pub FaultCause : SinkFault → ℕ → ℕ → Type 0
 FaultCause Failed before now = Rose before now
 FaultCause Memory before now = now ≡ before

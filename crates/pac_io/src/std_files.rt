@@ -54,6 +54,7 @@ impl<R: rt::Files> Files for StdFiles<R> {
 /// Reads to the end, but no more than one byte past the limit. A read that gives nothing is the
 /// end; one that was interrupted is tried again.
 fn read_up_to<R: Read>(alloc: Global, reader: &mut R, limit: u64) -> Result<Bytes, FilesFault>
+    // Where the reader tells its bytes, the file is these, whatever its name.
     ensures { ReadsFile (option_map (λ bytes _. Some bytes) (R.remaining reader.old)) [] limit result }
 {
     let mut held = Vec::new(alloc);

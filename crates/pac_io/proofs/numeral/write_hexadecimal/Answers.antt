@@ -1,4 +1,4 @@
-use Rattle.std.proofs.Common.{◌≡◌, ◌-◌, ◌/◌, false, drop, sym, ap, ◌∙◌, arith}
+use Rattle.std.proofs.Common.{◌-◌, ◌/◌, false, drop, sym, ap, ◌∙◌, arith}
 use Rattle.std.proofs.Math.ListN.{length-set, drop_of_length-le}
 use Rattle.std.specs.Fmt.{digits_onto}
 use Rattle.pac_io.proofs.HexadecimalDigits.{onto_nothing, onto_first, onto_next, drop-set-before}

@@ -1,4 +1,4 @@
-use Rattle.std.proofs.Common.{◌≡◌, ◌≤◌, ◌-◌, ◌++◌, length, drop, ap, ◌∙◌, arith}
+use Rattle.std.proofs.Common.{◌≤◌, ◌-◌, ◌++◌, length, drop, ap, ◌∙◌, arith}
 use Rattle.std.proofs.lemmas.List.{take_all, length-drop}
 use Rattle.std.proofs.lemmas.Result.{on_ok_weaker}
 use Rattle.pac_io.proofs.HexadecimalDigits.{padded}
