@@ -1,6 +1,6 @@
 /// What a refused call hands back: the state that it was given, equal to what was handed in, and
 /// why it was refused.
-#[derive(Drop)]
+#[derive(Debug, Drop)]
 pub struct Back<S, F> {
     /// The state as it was handed in.
     pub state: S,

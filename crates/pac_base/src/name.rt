@@ -11,7 +11,7 @@ use thiserror::Error;
 
 /// The name of a peripheral, cluster, register or field as it is written: letters, digits and `_`,
 /// with at most one `%s` in it, or `[%s]` behind it. Contracts see it as the list of its bytes.
-#[derive(Drop)]
+#[derive(Debug, Drop)]
 pub struct Name {
     bytes: Vec<u8>,
 }

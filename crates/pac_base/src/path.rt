@@ -2,7 +2,7 @@ use crate::name::Name;
 use crate::seq::Seq;
 
 /// One step of a path: the name of an element, and which member of an array is meant.
-#[derive(Drop)]
+#[derive(Debug, Drop)]
 pub struct Step {
     /// The written name.
     pub name: Name,

@@ -9,7 +9,7 @@ use std::str;
 use thiserror::Error;
 
 /// A text in UTF-8. Contracts see it as the list of its bytes.
-#[derive(Drop)]
+#[derive(Debug, Drop)]
 pub struct Text {
     text: String,
 }

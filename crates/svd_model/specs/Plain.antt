@@ -1,6 +1,7 @@
 -- What a device of plain registers says, apart from how the tree is kept: names, bases and offsets
 -- in the order of their declaration.
-use Rattle.std.specs.Prelude.{ℕ, List, map}
+use Rattle.std.specs.Prelude.{ℕ, ◌+◌, ◌≤◌, ◌^◌, List, map, All}
+use Rattle.std.specs.List.{AllByRecursion}
 use Rattle.svd_model.specs.declared.device.Device.{Device}
 use Rattle.svd_model.specs.declared.device.Peripheral.{Peripheral}
 use Rattle.svd_model.specs.declared.device.Item.{Item}
@@ -23,6 +24,13 @@ pub record PlainPeripheral : Type 0 where
 pub record PlainDevice : Type 0 where
   pub name : List ℕ
   pub peripherals : List PlainPeripheral
+
+-- each register of four bytes ends within the addresses below 2^64
+abbrev pub FitsAt : ℕ → PlainRegister → Type 0
+FitsAt base register = base + register.offset + 4 ≤ 2 ^ 64
+
+abbrev pub AddressesFit : PlainDevice → Type 0
+AddressesFit device = AllByRecursion (λ peripheral. All (FitsAt peripheral.base) peripheral.registers) device.peripherals
 
 abbrev pub offset_of : Child → ℕ
 offset_of (Register register) = register.offset
