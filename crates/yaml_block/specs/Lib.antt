@@ -1,0 +1,4 @@
+pub mod Spaces
+pub mod Reading
+pub mod Scalars
+pub mod Values
