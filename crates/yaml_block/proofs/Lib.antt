@@ -2,3 +2,4 @@ pub mod Texts
 pub mod Loops
 pub mod Trimming
 pub mod Shrinking
+pub mod Cutting

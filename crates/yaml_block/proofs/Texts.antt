@@ -75,3 +75,13 @@ byte_shrinks Double (byte ∷ text) x e =
       | inl same ↦ let e' : escape_at text ≡ Some x = rw same at e in omega (arith, escape_shrinks text x e')
       | inr other ↦ let e' : given (byte, text) ≡ given x = rw other at e in omega (arith, ap (λ (p : ℕ × List ℕ). length p.1) (some_is (byte, text) x e'))
     ]
+
+pub is_text : (bytes : List ℕ) → IsUtf8 bytes → true ≡ is_utf8 bytes
+is_text bytes utf8 = sym (is_utf8-from_IsUtf8 bytes utf8)
+
+pub is_no_text : (bytes : List ℕ) → (IsUtf8 bytes → ⊥) → false ≡ is_utf8 bytes
+is_no_text bytes none =
+    elim (cases_Bool (is_utf8 bytes)) [
+      | inl utf8 ↦ absurd (none (IsUtf8-from_is_utf8 bytes utf8))
+      | inr other ↦ sym other
+    ]

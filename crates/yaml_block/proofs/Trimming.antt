@@ -5,8 +5,8 @@ use Rattle.std.proofs.lemmas.List.{take_more, take_all, reverse-append, reverse-
 use Rattle.text_scan.specs.Fronts.{rest_of}
 use Rattle.yaml_block.specs.Spaces.{is_space, trimmed}
 
-last_apart : (text : List ℕ) → 0 < length text → text ≡ take (length text - 1) text ++ get_or text (length text - 1) 0 ∷ []
-last_apart text some =
+pub last_apart : (text : List ℕ) → 0 < length text → text ≡ take (length text - 1) text ++ get_or text (length text - 1) 0 ∷ []
+pub last_apart text some =
     let whole : take (length text - 1 + 1) text ≡ text = take_all (length text - 1 + 1) text (omega arith) in
     sym whole ∙ take_more text (length text - 1) 0 (omega arith)
 

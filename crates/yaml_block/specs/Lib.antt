@@ -2,3 +2,5 @@ pub mod Spaces
 pub mod Reading
 pub mod Scalars
 pub mod Values
+pub mod Contents
+pub mod Lines
