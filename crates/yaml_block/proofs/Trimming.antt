@@ -6,7 +6,7 @@ use Rattle.text_scan.specs.Fronts.{rest_of}
 use Rattle.yaml_block.specs.Spaces.{is_space, trimmed}
 
 pub last_apart : (text : List ℕ) → 0 < length text → text ≡ take (length text - 1) text ++ get_or text (length text - 1) 0 ∷ []
-pub last_apart text some =
+last_apart text some =
     let whole : take (length text - 1 + 1) text ≡ text = take_all (length text - 1 + 1) text (omega arith) in
     sym whole ∙ take_more text (length text - 1) 0 (omega arith)
 

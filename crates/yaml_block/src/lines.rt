@@ -1,7 +1,6 @@
-ghost use Rattle.std.specs.Prelude.{◌≡◌, ◌<◌, ◌≤◌, ◌∷◌, length, IfOk, IfSome, MatchBool, option_map, None, Bool};
+ghost use Rattle.std.specs.Prelude.{◌≡◌, ◌<◌, ◌≤◌, ◌∷◌, length, IfOk, IfSome, MatchBool, option_map, true};
 ghost use Rattle.text_scan.specs.Fronts.{rest_of};
-ghost use Rattle.yaml_block.specs.declared.lines.Found.{Found};
-ghost use Rattle.yaml_block.specs.Lines.{found_in, is_no_feed, joined, lines_from, lines_left, lines_with, raw_lines, said_at, unmarked, without_return};
+ghost use Rattle.yaml_block.specs.Lines.{found_in, is_no_feed, lines_from, lines_left, raw_lines, unmarked, without_return};
 
 use crate::line::{Line, Said, said_in};
 use crate::refusal::Refusal;
@@ -61,6 +60,7 @@ fn split_line(text: &[u8]) -> (&[u8], Option<&[u8]>)
 }
 
 /// The lines that were taken in, and whether the next one may be the first that says something.
+#[derive(Drop)]
 struct Reader {
     lines: Seq<Line>,
     first: bool,
