@@ -3,3 +3,4 @@ pub mod Loops
 pub mod Trimming
 pub mod Shrinking
 pub mod Cutting
+pub mod Finding
