@@ -15,12 +15,12 @@ TakesIn old first new still number raw formed =
     MatchBool formed ((others : Bool → Found) → joined new (others still) ≡ joined old (lines_with (said_at first number raw) number others first)) ((new ≡ old) × (said_at first number raw ≡ None))
 
 was_formed : (formed : Bool) (P Q : Type 0) → formed ≡ true → MatchBool formed P Q → P
-was_formed true P Q yes said = said
-was_formed false P Q yes said = absurd cc
+was_formed true P Q it_is said = said
+was_formed false P Q it_is said = absurd cc
 
 was_not : (formed : Bool) (P Q : Type 0) → formed ≡ false → MatchBool formed P Q → Q
-was_not true P Q no said = absurd cc
-was_not false P Q no said = said
+was_not true P Q it_isnt said = absurd cc
+was_not false P Q it_isnt said = said
 
 abbrev found_with : Option ℕ → List Line → Found
 found_with fault lines = record { lines = lines; fault = fault }
@@ -29,14 +29,14 @@ module _ (old : List Line) (first : Bool) (new : List Line) (still : Bool) (numb
     (same : joined old (lines_from first number (raw_lines text)) ≡ total) (cut : raw_lines text ≡ raw ∷ others) where
   pub taken : (formed : Bool) → formed ≡ true → TakesIn old first new still number raw formed → joined new (lines_from still (number + 1) others) ≡ total
   unfolding lines_from
-  taken formed yes said =
-      was_formed formed ((more : Bool → Found) → joined new (more still) ≡ joined old (lines_with (said_at first number raw) number more first)) ((new ≡ old) × (said_at first number raw ≡ None)) yes said (λ s. lines_from s (number + 1) others)
+  taken formed it_is said =
+      was_formed formed ((more : Bool → Found) → joined new (more still) ≡ joined old (lines_with (said_at first number raw) number more first)) ((new ≡ old) × (said_at first number raw ≡ None)) it_is said (λ s. lines_from s (number + 1) others)
       ∙ ap (λ (lines : List (List ℕ)). joined old (lines_from first number lines)) (sym cut) ∙ same
 
   pub refused : (formed : Bool) → formed ≡ false → TakesIn old first new still number raw formed → found_with (Some number) new ≡ total
   unfolding lines_from
-  refused formed no said =
-      let none = was_not formed ((more : Bool → Found) → joined new (more still) ≡ joined old (lines_with (said_at first number raw) number more first)) ((new ≡ old) × (said_at first number raw ≡ None)) no said in
+  refused formed it_isnt said =
+      let none = was_not formed ((more : Bool → Found) → joined new (more still) ≡ joined old (lines_with (said_at first number raw) number more first)) ((new ≡ old) × (said_at first number raw ≡ None)) it_isnt said in
       ap (found_with (Some number)) (none.0 ∙ sym (append-nil old))
       ∙ ap (λ (read : Option Said). joined old (lines_with read number (λ s. lines_from s (number + 1) others) first)) (sym none.1)
       ∙ ap (λ (lines : List (List ℕ)). joined old (lines_from first number lines)) (sym cut)
