@@ -1,5 +1,6 @@
-// Block text: the subset of YAML that patches are written in. Lines become items and entries of
-// scalars and flow collections, each exactly as the format has it.
+// Block text, the subset of YAML that patches are written in, line by line: what each line says, an
+// item, a key or an entry of scalars and flow collections, at which indent, and the first line that
+// has not the form.
 
 #![tactic(auto)]
 
@@ -11,11 +12,11 @@ mod quoted;
 mod refusal;
 mod scalar;
 mod space;
+#[cfg(test)]
+mod tests;
 mod value;
 
-pub use content::{Content, content_of};
-pub use line::{Line, Said, said_in};
+pub use content::Content;
+pub use line::Line;
 pub use lines::{Found, read_lines};
-pub use refusal::Refusal;
-pub use scalar::{Place, scalar_text};
-pub use value::{Value, value_of};
+pub use value::Value;
