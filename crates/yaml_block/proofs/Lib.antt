@@ -4,3 +4,4 @@ pub mod Trimming
 pub mod Shrinking
 pub mod Cutting
 pub mod Finding
+pub mod Quoting

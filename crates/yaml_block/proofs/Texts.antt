@@ -71,9 +71,12 @@ byte_shrinks Single (byte ∷ text) x e =
       | inr other ↦ let e' : given (byte, text) ≡ given x = rw other at e in omega (arith, ap (λ (p : ℕ × List ℕ). length p.1) (some_is (byte, text) x e'))
     ]
 byte_shrinks Double (byte ∷ text) x e =
-    elim (cases_Bool (eqb byte 92)) [
-      | inl same ↦ let e' : escape_at text ≡ Some x = rw same at e in omega (arith, escape_shrinks text x e')
-      | inr other ↦ let e' : given (byte, text) ≡ given x = rw other at e in omega (arith, ap (λ (p : ℕ × List ℕ). length p.1) (some_is (byte, text) x e'))
+    elim (cases_Bool (eqb byte 34)) [
+      | inl shut ↦ absurd (let e' : None ≡ given x = rw shut at e in cc)
+      | inr still ↦ elim (cases_Bool (eqb byte 92)) [
+        | inl same ↦ let e' : escape_at text ≡ Some x = rw (still, same) at e in omega (arith, escape_shrinks text x e')
+        | inr other ↦ let e' : given (byte, text) ≡ given x = rw (still, other) at e in omega (arith, ap (λ (p : ℕ × List ℕ). length p.1) (some_is (byte, text) x e'))
+      ]
     ]
 
 pub is_text : (bytes : List ℕ) → IsUtf8 bytes → true ≡ is_utf8 bytes

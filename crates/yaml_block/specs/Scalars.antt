@@ -78,7 +78,7 @@ escape_at (byte ∷ text) = escaped byte >>= λ meant. Some (meant, text)
 unfoldable pub byte_at : Quote → List ℕ → Option (ℕ × List ℕ)
 byte_at quote [] = None
 byte_at Single (byte ∷ text) = if byte == 39 then (stripped_of (codes "'") text >>= λ rest. Some (39, rest)) else Some (byte, text)
-byte_at Double (byte ∷ text) = if byte == 92 then escape_at text else Some (byte, text)
+byte_at Double (byte ∷ text) = if byte == 34 then None else if byte == 92 then escape_at text else Some (byte, text)
 
 abbrev pub goes_on : Quote → List ℕ → Bool
 goes_on quote text = not (closes quote text)

@@ -19,4 +19,5 @@ mod value;
 pub use content::Content;
 pub use line::Line;
 pub use lines::{Found, read_lines};
+pub use quoted::quotes_as_spelled;
 pub use value::Value;

@@ -1,4 +1,6 @@
-ghost use Rattle.std.specs.Prelude.{◌≡◌, option_map};
+ghost use Rattle.std.specs.Prelude.{◌≡◌, ◌↔◌, List, ℕ, Some, option_map};
+ghost use Rattle.yaml_block.specs.declared.quoted.Quote.{Quote as QuoteMark};
+ghost use Rattle.yaml_block.specs.Quoting.{IsQuoted};
 ghost use Rattle.yaml_block.specs.Reading.{Gives};
 ghost use Rattle.yaml_block.specs.Scalars.{byte_at, bytes_at, closes, escape_at, escaped, mark_of, quoted_at};
 
@@ -75,6 +77,7 @@ fn byte(quote: Quote, text: &[u8]) -> Option<(u8, &[u8])>
     let (first, after) = text.split_first()?;
     match quote {
         Quote::Single if *first == b'\'' => Some((b'\'', stripped(after, b"'")?)),
+        Quote::Double if *first == b'"' => None,
         Quote::Double if *first == b'\\' => escape(after),
         _ => Some((*first, after)),
     }
@@ -110,3 +113,10 @@ pub fn quoted_text(alloc: Global, quote: Quote, text: &[u8]) -> Result<(Text, &[
     let spelled = made_text(alloc, &bytes)?;
     Ok((spelled, rest))
 }
+
+/// What is read within quotes is what is spelled there: in single quotes each byte as itself, but the
+/// quote twice; in double quotes each byte as itself, or by one of the escapes `\\`, `\"`, `\n` and
+/// `\t`.
+pub fn quotes_as_spelled()
+    ensures { (quote : QuoteMark) (bytes text rest : List ℕ) → (quoted_at quote text ≡ Some (bytes, rest)) ↔ IsQuoted quote bytes text rest }
+{}
