@@ -1,5 +1,5 @@
 -- A text cut at its first line feed.
-use Rattle.std.proofs.Common.{◌≡◌, ◌<◌, ◌≤◌, ℕ, suc, ◌+◌, ◌-◌, Bool, true, false, cond, not, ◌&&◌, eqb, List, [], ◌∷◌, ◌++◌, length, take, drop, get_or, Option, Some, None, refl, sym, ap, ◌∙◌, inl, inr, arith}
+use Rattle.std.proofs.Common.{◌≡◌, ◌<◌, ◌≤◌, ℕ, ◌+◌, ◌-◌, true, false, cond, eqb, List, [], ◌∷◌, ◌++◌, length, take, drop, get_or, Option, Some, None, refl, sym, ap, ◌∙◌, inl, inr, arith}
 use Rattle.std.proofs.lemmas.Bool.{cases_Bool, cond-true, cond-false}
 use Rattle.text_scan.specs.Fronts.{front_of, rest_of}
 use Rattle.text_scan.proofs.Fronts.{length-rest, take-front}
@@ -134,7 +134,7 @@ lines-ended (byte ∷ text) feed after e =
 return-snoc : (text : List ℕ) (byte : ℕ) → without_return (text ++ byte ∷ []) ≡ cond (eqb byte 13) text (text ++ byte ∷ [])
 unfolding without_return
 return-snoc [] byte = refl
-return-snoc (x ∷ []) byte = elim (cases_Bool (eqb byte 13)) [ | inl same ↦ rw same refl | inr other ↦ rw other refl ]
+return-snoc (x ∷ []) byte = elim (cases_Bool (eqb byte 13)) [ inl same ↦ rw same refl | inr other ↦ rw other refl ]
 return-snoc (x ∷ y ∷ text) byte =
     elim (cases_Bool (eqb byte 13)) [
       | inl same ↦ ap (λ (t : List ℕ). x ∷ t) (return-snoc (y ∷ text) byte) ∙ rw same refl

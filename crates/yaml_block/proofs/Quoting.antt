@@ -1,10 +1,10 @@
 -- The reader of quotes gives exactly what is spelled.
-use Rattle.std.proofs.Common.{◌≡◌, ◌≢◌, ◌⊎◌, ℕ, zero, suc, Bool, true, false, not, ◌&&◌, eqb, cond, List, [], ◌∷◌, ◌++◌, Option, Some, None, refl, sym, ap, subst, ◌∙◌, inl, inr}
+use Rattle.std.proofs.Common.{◌≡◌, ◌≢◌, ℕ, zero, suc, Bool, true, false, not, eqb, cond, List, [], ◌∷◌, ◌++◌, Option, Some, None, refl, sym, ap, subst, ◌∙◌, inl, inr}
 use Rattle.std.specs.Prelude.{codes}
 use Rattle.std.specs.Str.{is_utf8}
-use Rattle.std.proofs.lemmas.Bool.{cases_Bool, eqb-true, eq-eqb, ne_eqb, not-true, not_from_false, true≢false}
+use Rattle.std.proofs.lemmas.Bool.{cases_Bool, eqb-true, eq-eqb, ne_eqb, true≢false}
 use Rattle.text_scan.specs.Fronts.{stripped_of}
-use Rattle.text_scan.specs.Lists.{ReadsAll, items_up_to, items_at}
+use Rattle.text_scan.specs.Lists.{items_up_to, items_at}
 use Rattle.text_scan.specs.Steps.{◌>>=◌}
 use Rattle.text_scan.proofs.FixedText.{stripped-append, stripped-Some}
 use Rattle.text_scan.proofs.Lists.{given, items_take, items_again}
@@ -13,7 +13,7 @@ use Rattle.yaml_block.specs.declared.quoted.Quote.{Quote}
 use Rattle.yaml_block.specs.declared.quoted.Quote.TheVariants.{Single, Double}
 use Rattle.yaml_block.specs.Spaces.{starts}
 use Rattle.yaml_block.specs.Scalars.{text_of, mark_of, closes, escaped, escape_at, byte_at, goes_on, bytes_at, quoted_at}
-use Rattle.yaml_block.specs.Quoting.{StandsFor, IsByte, IsQuoted}
+use Rattle.yaml_block.specs.Quoting.{IsByte, IsQuoted}
 use Rattle.yaml_block.proofs.Texts.{byte_shrinks}
 
 -- where the items of a text end, none begins

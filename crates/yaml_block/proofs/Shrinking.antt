@@ -1,9 +1,9 @@
 -- A scalar takes no less than nothing, and what stands behind a comma at least a byte.
-use Rattle.std.proofs.Common.{◌≡◌, ℕ, ◌<◌, ◌≤◌, Bool, true, false, cond, List, [], ◌∷◌, ◌++◌, length, Option, Some, None, refl, ap, inl, inr, arith}
+use Rattle.std.proofs.Common.{◌≡◌, ℕ, ◌<◌, ◌≤◌, List, length, Option, Some, None, ap, inl, inr, arith}
 use Rattle.std.specs.Prelude.{codes}
 use Rattle.std.proofs.lemmas.Bool.{cases_Bool}
 use Rattle.std.proofs.lemmas.List.{length-append}
-use Rattle.text_scan.specs.Fronts.{front_of, rest_of, stripped_of}
+use Rattle.text_scan.specs.Fronts.{rest_of, stripped_of}
 use Rattle.text_scan.specs.Lists.{ReadsAll}
 use Rattle.text_scan.specs.Steps.{◌>>=◌}
 use Rattle.text_scan.proofs.FixedText.{stripped-Some}

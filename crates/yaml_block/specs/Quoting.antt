@@ -1,5 +1,5 @@
 -- Scalars within quotes, as they are spelled (YAML's single-quoted and double-quoted scalars with four escapes). The reader of quotes is held to this.
-use Rattle.std.specs.Prelude.{◌≡◌, ◌≢◌, ◌⊎◌, ℕ, true, List, [], ◌∷◌, ◌++◌, Option, Some, ◌==◌, if◌then◌else◌}
+use Rattle.std.specs.Prelude.{◌≡◌, ◌≢◌, ◌⊎◌, ℕ, true, List, [], ◌∷◌, ◌++◌, Some, ◌==◌, if◌then◌else◌}
 use Rattle.std.specs.Str.{is_utf8}
 use Rattle.text_scan.specs.Lists.{ReadsAll}
 use Rattle.yaml_block.specs.declared.quoted.Quote.{Quote}

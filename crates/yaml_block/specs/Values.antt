@@ -1,5 +1,5 @@
 -- The values of block text: scalars, and flow collections of scalars (YAML's flow sequences and mappings, not nested).
-use Rattle.std.specs.Prelude.{ℕ, Bool, true, false, not, List, [], ◌∷◌, Option, Some, None, codes, if◌then◌else◌}
+use Rattle.std.specs.Prelude.{ℕ, List, [], ◌∷◌, Option, Some, None, codes}
 use Rattle.text_scan.specs.Fronts.{rest_of, stripped_of}
 use Rattle.text_scan.specs.Lists.{items_at}
 use Rattle.text_scan.specs.Steps.{◌>>=◌}

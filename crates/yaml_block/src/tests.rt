@@ -39,7 +39,11 @@ const TEXTS: [(&str, usize, Option<u32>); 22] = [
 #[test]
 fn lines_up_to_the_first_without_the_form(rt: HostRuntime) -> Result<(), Fail> {
     for (text, lines, fault) in TEXTS {
-        assert_eq!(rt; outcome(rt.alloc(), text.as_bytes())?, (lines, fault), "{text}");
+        assert_eq!(rt;
+            outcome(rt.alloc(), text.as_bytes())?,
+            (lines, fault),
+            "{text}"
+        );
     }
     assert_eq!(rt; outcome(rt.alloc(), b"a: b\nc: \xFF\n")?, (1, Some(2)));
     Ok(())
@@ -61,7 +65,10 @@ fn numbers_indents_and_scalars(rt: HostRuntime) -> Result<(), Fail> {
     let text = b"_svd: ex32f1.svd\n\nTIM2:\n  from : it's # so\n    'a''b': \"c\\\"d\"\n  - ' '\n";
     let found = read_lines(rt.alloc(), text)?;
     let last = entry_in(&found, 3)?;
-    assert_eq!(rt; entry_text(entry_in(&found, 0)?), Some(("_svd", "ex32f1.svd")));
+    assert_eq!(rt;
+        entry_text(entry_in(&found, 0)?),
+        Some(("_svd", "ex32f1.svd"))
+    );
     assert_eq!(rt; entry_text(entry_in(&found, 2)?), Some(("from", "it's")));
     assert_eq!(rt; entry_text(last), Some(("a'b", "c\"d")));
     assert_eq!(rt; (last.number, last.indent), (5, 4));

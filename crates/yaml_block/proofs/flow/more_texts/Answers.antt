@@ -1,4 +1,4 @@
-use Rattle.std.proofs.Common.{◌≡◌, [], ◌∷◌, sym}
+use Rattle.std.proofs.Common.{[], ◌∷◌, sym}
 use Rattle.std.proofs.lemmas.Result.{err_from_is_err_and}
 use Rattle.text_scan.proofs.Lists.{goes_on, is_done}
 use Rattle.yaml_block.specs.Spaces.{starts}
