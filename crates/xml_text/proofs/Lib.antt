@@ -1,0 +1,12 @@
+pub mod Blocks
+pub mod Names
+pub mod Distinct
+pub mod Marks
+pub mod References
+pub mod OneAttribute
+pub mod Keeping
+pub mod Tags
+pub mod FirstBytes
+pub mod Parts
+pub mod Openings
+pub mod Answering
