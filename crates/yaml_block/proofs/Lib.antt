@@ -5,3 +5,4 @@ pub mod Shrinking
 pub mod Cutting
 pub mod Finding
 pub mod Quoting
+pub mod Blocks

@@ -5,3 +5,5 @@ pub mod Quoting
 pub mod Values
 pub mod Contents
 pub mod Lines
+pub mod Blocks
+pub mod Runs

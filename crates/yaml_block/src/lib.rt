@@ -4,6 +4,7 @@
 
 #![tactic(auto)]
 
+mod block;
 mod content;
 mod flow;
 mod line;
@@ -16,6 +17,7 @@ mod space;
 mod tests;
 mod value;
 
+pub use block::one_mapping;
 pub use content::Content;
 pub use line::Line;
 pub use lines::{Found, read_lines};
