@@ -1,5 +1,5 @@
 -- What the reader on lists gives is what the text says.
-use Rattle.std.proofs.Common.{◌≡◌, ℕ, Bool, true, List, Option, Some, None, Result, Ok, Err, refl, sym, ap, ◌∙◌}
+use Rattle.std.proofs.Common.{◌≡◌, ℕ, ◌<◌, length, Bool, true, List, Option, Some, None, Result, Ok, Err, refl, sym, ap, ◌∙◌}
 use Rattle.std.specs.Prelude.{IfOk, IsErrOf, MatchResult, MatchOption, option_map}
 use Rattle.std.specs.Borrow.{Bor}
 use Rattle.text_scan.specs.Lists.{items_at}
@@ -12,6 +12,7 @@ use Rattle.xml_text.specs.Parts.{XmlPart, IsPart}
 use Rattle.xml_text.specs.Opening.{IsOpening}
 use Rattle.xml_text.specs.Views.{part_of}
 use Rattle.xml_text.specs.Reading.{Fails, Gives, part_at, opening_at}
+use Rattle.xml_text.proofs.Lengths.{IsPart-length}
 use Rattle.xml_text.proofs.Parts.{part_takes, part_again}
 use Rattle.xml_text.proofs.Openings.{opening_takes, opening_again}
 
@@ -24,6 +25,10 @@ breaks begins item_at shrinks Memory front text total starts none so_far = tt
 pub is_spelled : (text : List ℕ) (result : Result (Part × Bor (List ℕ)) XmlFault) → Gives (λ x. (part_of x.0, x.1.now)) result (part_at text) → IfOk result (λ x. IsPart (part_of x.0) text x.1.now)
 is_spelled text (Ok x) given = part_takes text (part_of x.0) x.1.now given
 is_spelled text (Err fault) given = tt
+
+pub is_shorter : (text : List ℕ) (result : Result (Part × Bor (List ℕ)) XmlFault) → Gives (λ x. (part_of x.0, x.1.now)) result (part_at text) → IfOk result (λ x. length x.1.now < length text)
+is_shorter text (Ok x) given = IsPart-length (part_of x.0) text x.1.now (part_takes text (part_of x.0) x.1.now given)
+is_shorter text (Err fault) given = tt
 
 pub is_refused : (text : List ℕ) (result : Result (Part × Bor (List ℕ)) XmlFault) → Gives (λ x. (part_of x.0, x.1.now)) result (part_at text) → IsErrOf result Syntax
     → (part : XmlPart) (rest : List ℕ) → IsPart part text rest → ⊥

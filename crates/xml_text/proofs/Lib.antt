@@ -10,3 +10,4 @@ pub mod FirstBytes
 pub mod Parts
 pub mod Openings
 pub mod Answering
+pub mod Lengths

@@ -1,4 +1,4 @@
-ghost use Rattle.std.specs.Prelude.{◌≡◌, ℕ, List, IfOk, IsErrOf, MatchResult};
+ghost use Rattle.std.specs.Prelude.{◌≡◌, ◌<◌, ℕ, List, length, IfOk, IsErrOf, MatchResult};
 ghost use Rattle.xml_text.specs.Parts.{XmlPart, IsPart, AreParts};
 ghost use Rattle.xml_text.specs.Views.{part_of};
 ghost use Rattle.xml_text.specs.Reading.{Gives, part_at};
@@ -60,6 +60,8 @@ fn next_part(alloc: Global, text: &[u8]) -> Result<(Part, &[u8]), XmlFault>
 pub fn split_part(alloc: Global, text: &[u8]) -> Result<(Part, &[u8]), XmlFault>
     // What is read is a part, and the rest stands behind it.
     ensures spelled { IfOk result (λ x. IsPart (part_of x.0) text.now x.1.now) }
+    // A part takes at least a byte.
+    ensures shorter { IfOk result (λ x. length x.1.now < length text.now) }
     // What is refused begins with no part.
     ensures refused { IsErrOf result XmlFault.Syntax
         → (part : XmlPart) (rest : List ℕ) → IsPart part text.now rest → ⊥ }
