@@ -1,5 +1,5 @@
 -- Shifts and masks are division and remainder.
-use Rattle.std.proofs.Common.{◌≡◌, ℕ, ◌+◌, ◌-◌, ◌*◌, ◌/◌, ◌%◌, ◌^◌, ◌<◌, ◌≤◌, min, max, w64, refl, sym, ap, subst, ◌∙◌, arith}
+use Rattle.std.proofs.Common.{◌≡◌, ℕ, ◌+◌, ◌-◌, ◌*◌, ◌/◌, ◌%◌, ◌^◌, ◌<◌, ◌≤◌, min, max, w64, sym, ap, subst, ◌∙◌, arith}
 use Rattle.std.specs.Prelude.{bit_and, bit_or}
 use Rattle.std.specs.Int.{bit_at}
 use Rattle.std.proofs.Math.Nat.{add-mul, one-le-pow, mod-lt, mod-eq_of_lt, mul-le-mul_right, pow-le-pow_right}
@@ -112,23 +112,23 @@ put_below word offset width value others ones bits within ones_is small inside =
     (subst (λ (n : ℕ). n < 2 ^ bits) (sym (ap (λ (n : ℕ). bit_and value n * 2 ^ offset % 2 ^ 64) ones_is ∙ placed value offset width within))
     (scaled_below (value % 2 ^ width) width offset bits (mod-lt value (pow_pos width)) inside))
 
-by_bits : (zero one bit : ℕ) → zero < 2 → one < 2 → bit < 2 → max (min bit (1 - one)) zero ≡ start_bit zero one bit
-by_bits zero one bit p q r = grind (arith, nat_tests)
+by_bits : (raised one bit : ℕ) → raised < 2 → one < 2 → bit < 2 → max (min bit (1 - one)) raised ≡ start_bit raised one bit
+by_bits raised one bit p q r = grind (arith, nat_tests)
 
-pub start-bits : (word one zero : ℕ) → one < 2 ^ 64 → IsStart 64 word one zero (bit_or (bit_and word (2 ^ 64 - 1 - one)) zero)
+pub start-bits : (word one raised : ℕ) → one < 2 ^ 64 → IsStart 64 word one raised (bit_or (bit_and word (2 ^ 64 - 1 - one)) raised)
 unfolding IsStart
-start-bits word one zero small =
-    λ i below. bit_at_or (bit_and word (2 ^ 64 - 1 - one)) zero i
-    ∙ ap (λ (n : ℕ). max n (bit_at zero i)) (bit_at_and word (2 ^ 64 - 1 - one) i ∙ ap (min (bit_at word i)) (bit_at_not w64 one i small below))
-    ∙ by_bits (bit_at zero i) (bit_at one i) (bit_at word i) (bit_at-lt zero i) (bit_at-lt one i) (bit_at-lt word i)
+start-bits word one raised small =
+    λ i below. bit_at_or (bit_and word (2 ^ 64 - 1 - one)) raised i
+    ∙ ap (λ (n : ℕ). max n (bit_at raised i)) (bit_at_and word (2 ^ 64 - 1 - one) i ∙ ap (min (bit_at word i)) (bit_at_not w64 one i small below))
+    ∙ by_bits (bit_at raised i) (bit_at one i) (bit_at word i) (bit_at-lt raised i) (bit_at-lt one i) (bit_at-lt word i)
 
-pub start_below : (word others zero bits : ℕ) → word < 2 ^ bits → zero < 2 ^ bits → bit_or (bit_and word others) zero < 2 ^ bits
-start_below word others zero bits p q = or_lt bits (bit_and word others) zero (omega (arith, and_le_l word others)) q
+pub start_below : (word others raised bits : ℕ) → word < 2 ^ bits → raised < 2 ^ bits → bit_or (bit_and word others) raised < 2 ^ bits
+start_below word others raised bits p q = or_lt bits (bit_and word others) raised (omega (arith, and_le_l word others)) q
 
 -- a start word by its 64 bits has fewer bits right too
-pub start_fewer : (bits word one zero start cut : ℕ) → bits ≤ 64 → IsStart 64 word one zero start → cut ≡ start → IsStart bits word one zero cut
+pub start_fewer : (bits word one raised start cut : ℕ) → bits ≤ 64 → IsStart 64 word one raised start → cut ≡ start → IsStart bits word one raised cut
 unfolding IsStart
-start_fewer bits word one zero start cut within is same = λ i below. ap (λ (n : ℕ). bit_at n i) same ∙ is i (omega arith)
+start_fewer bits word one raised start cut within is same = λ i below. ap (λ (n : ℕ). bit_at n i) same ∙ is i (omega arith)
 
 pub kept_whole : (n bits value r : ℕ) → value ≡ n % 2 ^ bits → n < 2 ^ bits → n ≡ r → value ≡ r
 kept_whole n bits value r cut small is = cut ∙ mod-eq_of_lt small ∙ is
