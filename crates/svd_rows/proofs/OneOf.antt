@@ -44,6 +44,30 @@ module _ {S K : Type 0} where
   distinct-one same [] x after distinct = distinct.1
   distinct-one same (y ∷ before) x after distinct = distinct-one same before x after distinct.2
 
+  absent-append : (same : S → S → Bool) (step : S) (xs ys : List (S × Tree S K)) → IsAbsent same step (siblings xs) → IsAbsent same step (siblings ys) → IsAbsent same step (siblings (xs ++ ys))
+  unfolding siblings steps
+  absent-append same step [] ys none none_more = none_more
+  absent-append same step (x ∷ xs) ys none none_more = (none.0, absent-append same step xs ys none.1 none_more)
+
+  absent-exchanged : (same : S → S → Bool) (step : S) (before : List (S × Tree S K)) (x : S × Tree S K) (after new : List (S × Tree S K)) → IsAbsent same step (siblings (before ++ x ∷ after)) → IsAbsent same step (siblings new) → IsAbsent same step (siblings (before ++ (new ++ after)))
+  unfolding siblings steps
+  absent-exchanged same step [] x after new none none_new = absent-append same step new after none_new none.1
+  absent-exchanged same step (y ∷ before) x after new none none_new = (none.0, absent-exchanged same step before x after new none.1 none_new)
+
+  distinct-append : (same : S → S → Bool) (xs ys : List (S × Tree S K)) → IsDistinct same (siblings xs) → IsDistinct same (siblings ys) → AllByRecursion (λ x. IsAbsent same x.0 (siblings ys)) xs → IsDistinct same (siblings (xs ++ ys))
+  unfolding IsDistinct siblings
+  distinct-append same [] ys distinct distinct_more apart = distinct_more
+  distinct-append same (x ∷ xs) ys distinct distinct_more apart =
+      (absent-append same x.0 xs ys distinct.0 apart.0, distinct.1, distinct-append same xs ys distinct.2 distinct_more apart.1)
+
+  -- distinct siblings stay distinct where others, which are distinct and have none of their steps, stand in the
+  -- place of one
+  pub distinct-exchanged : (same : S → S → Bool) (before : List (S × Tree S K)) (x : S × Tree S K) (after new : List (S × Tree S K)) → IsDistinct same (siblings (before ++ x ∷ after)) → IsDistinct same (siblings new) → AllByRecursion (λ y. IsAbsent same y.0 (siblings new)) before → AllByRecursion (λ y. IsAbsent same y.0 (siblings after)) new → IsDistinct same (siblings (before ++ (new ++ after)))
+  unfolding IsDistinct siblings
+  distinct-exchanged same [] x after new distinct distinct_new apart_before apart_after = distinct-append same new after distinct_new distinct.2 apart_after
+  distinct-exchanged same (y ∷ before) x after new distinct distinct_new apart_before apart_after =
+      (absent-exchanged same y.0 before x after new distinct.0 apart_before.0, distinct.1, distinct-exchanged same before x after new distinct.2 distinct_new apart_before.1 apart_after)
+
   -- the siblings of a list, split at one of its elements
   pub siblings-split : (before : List (S × Tree S K)) (x : S × Tree S K) (after : List (S × Tree S K)) → siblings (before ++ x ∷ after) ≡ join (siblings before) (planted x.0 x.1 (siblings after))
   unfolding siblings
