@@ -1,5 +1,5 @@
 -- The entries of a map: one value written, and the steps of their keys.
-use Rattle.std.proofs.Common.{◌≡◌, ℕ, false, zero, suc, List, [], ◌∷◌, map, Option, Some, slice_get, set, refl, ap}
+use Rattle.std.proofs.Common.{◌≡◌, ℕ, false, zero, suc, List, [], ◌∷◌, map, Some, slice_get, set, refl, ap}
 use Rattle.std.specs.List.{AllByRecursion, IsDistinct as AreDistinct}
 use Rattle.indexmap.specs.IndexMap.{set_value_at}
 use Rattle.svd_model.specs.declared.sibling.Sibling.{Sibling}
