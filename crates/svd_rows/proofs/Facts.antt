@@ -1,5 +1,5 @@
 -- What holds of each element, that siblings are distinct, and how many elements there are, after edits.
-use Rattle.std.proofs.Common.{◌≡◌, ℕ, ◌+◌, Bool, true, false, cond, List, [], ◌∷◌, ◌++◌, map, refl, sym, ap, ◌∙◌, subst, arith, zero-add}
+use Rattle.std.proofs.Common.{◌≡◌, ℕ, ◌+◌, Bool, true, false, cond, List, [], ◌∷◌, ◌++◌, map, refl, sym, ap, ap₂, ◌∙◌, subst, arith, zero-add}
 use Rattle.std.specs.List.{AllByRecursion}
 use Rattle.svd_rows.specs.Edits.{in_children, replaced, renamed}
 use Rattle.svd_rows.specs.Elements.{IsAbsent, IsDistinct, Every, count}
@@ -135,3 +135,27 @@ module _ {S K : Type 0} where
     where
       sums : (a b c d : ℕ) → a + (b + (c + d)) ≡ (a + (b + c)) + d
       sums a b c d = omega arith
+
+  -- other steps keep a fact that holds of them too
+  pub Every-renamed : (P : S → List K → Type 0) (new : S → S) → ((step : S) (keys : List K) → P step keys → P (new step) keys) → (f : Forest S K) → Every P f → Every P (renamed new f)
+  unfolding Every renamed
+  Every-renamed P new stays leaf h = tt
+  Every-renamed P new stays (node s ks c n) h = (stays s ks h.0, h.1, Every-renamed P new stays n h.2)
+
+  -- siblings that are replaced keep a fact that holds of those that replace them
+  pub Every-replaced : (P : S → List K → Type 0) (test : S → Bool) (made : S → Tree S K → Forest S K) → ((step : S) (tree : Tree S K) → P step tree.keys → Every P tree.below → Every P (made step tree)) → (f : Forest S K) → Every P f → Every P (replaced test made f)
+  unfolding Every replaced
+  Every-replaced P test made holds leaf h = tt
+  Every-replaced P test made holds (node s ks c n) h =
+      cases (test s) (Every-replaced P test made holds n h.2)
+    where
+      cases : (b : Bool) → Every P (replaced test made n) → Every P (cond b (join (made s (record { keys = ks; below = c })) (replaced test made n)) (node s ks c (replaced test made n)))
+      cases true rest = Every-join P (made s (record { keys = ks; below = c })) (replaced test made n) (holds s (record { keys = ks; below = c }) h.0 h.1) rest
+      cases false rest = (h.0, h.1, rest)
+
+  -- other steps that the test doesn't tell apart are counted as before
+  pub count-renamed : (test : S → Bool) (new : S → S) → ((step : S) → test (new step) ≡ test step) → (f : Forest S K) → count test (renamed new f) ≡ count test f
+  unfolding count renamed
+  count-renamed test new stays leaf = refl
+  count-renamed test new stays (node s ks c n) =
+      ap₂ (λ b k. cond b 1 0 + (count test c + k)) (stays s) (count-renamed test new stays n)

@@ -233,3 +233,21 @@ module _ {S K : Type 0} where
     where
       kept : Row S K → Bool
       kept row = not (here same path (has_rank rank (rank key)) row)
+
+  -- leaving out the key of a rank is leaving out its row
+  pub rows-without_key : (same : S → S → Bool) → IsSame same → (rank : K → ℕ) (path : List S) (n : ℕ) (tree part : Tree S K) → Stands same path tree part → rows (within (exactly same path) (with_keys (filter (λ key. not (nat_eq (rank key) n)))) tree) ≡ filter (λ row. not (is_at (exactly same path) row && has_rank rank n row.said)) (rows tree)
+  unfolding here rows
+  rows-without_key same law rank path n tree part stands =
+      stands.edited (with_keys (filter (λ key. not (nat_eq (rank key) n))))
+      ∙ sym
+      (ap (filter kept) stands.stands
+      ∙ filter-append kept stands.before (map (under_path path) (rows part) ++ stands.after)
+      ∙ ap₂ (λ a b. a ++ b)
+      (filter-not_none (here same path (has_rank rank n)) stands.before (here-elsewhere same path (has_rank rank n) stands.before stands.elsewhere_before))
+      (filter-append kept (map (under_path path) (rows part)) stands.after
+      ∙ ap₂ (λ a b. a ++ b)
+      (filter-here same law path (has_rank rank n) (rows part) ∙ ap (map (under_path path)) (filter-tree rank n part))
+      (filter-not_none (here same path (has_rank rank n)) stands.after (here-elsewhere same path (has_rank rank n) stands.after stands.elsewhere_after))))
+    where
+      kept : Row S K → Bool
+      kept row = not (here same path (has_rank rank n) row)

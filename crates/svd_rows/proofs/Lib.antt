@@ -7,6 +7,7 @@ pub mod Finding
 pub mod Keys
 pub mod Lists
 pub mod LookUps
+pub mod OneOf
 pub mod Passing
 pub mod Places
 pub mod Reading

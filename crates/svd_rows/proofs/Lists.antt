@@ -1,6 +1,7 @@
 -- Lemmas on lists: filters, maps, and what stands after the last or in the place of what passes a test.
-use Rattle.std.proofs.lemmas.List.{take_more_set, take_more, map-append}
-use Rattle.std.proofs.Common.{sym, ◌++◌, ap₂, ℕ, ◌+◌, ◌<◌, take, set, get_or, length, ◌≡◌, Bool, true, false, cond, List, [], ◌∷◌, map, filter, refl, ap, ◌∙◌}
+use Rattle.std.proofs.lemmas.List.{take_more_set, take_more, map-append, take_at, drop_at, length-take-le, set_split}
+use Rattle.std.specs.List.{insert, remove}
+use Rattle.std.proofs.Common.{suc, drop, arith, sym, ◌++◌, ap₂, ℕ, ◌+◌, ◌<◌, take, set, get_or, length, ◌≡◌, Bool, true, false, cond, List, [], ◌∷◌, map, filter, refl, ap, ◌∙◌}
 
 pub filter-map : {X Y : Type 0} (p : Y → Bool) (f : X → Y) (xs : List X) → filter p (map f xs) ≡ map f (filter (λ x. p (f x)) xs)
 filter-map p f [] = refl
@@ -34,3 +35,10 @@ map-take_set seen made xs ys i y old within_xs within_ys so_far is_old here =
     ∙ map-append seen (take i xs) (y ∷ [])
     ∙ ap₂ (λ a b. a ++ b ∷ []) so_far (here ∙ ap made (sym is_old))
     ∙ sym (ap (map made) (take_more ys i old within_ys) ∙ map-append made (take i ys) (get_or ys i old ∷ []))
+
+-- an item that is taken out, and another put in its place
+pub insert-remove : {X : Type 0} (xs : List X) (i : ℕ) (y : X) → i < length xs → insert (remove xs i) i y ≡ set xs i y
+insert-remove xs i y within =
+    let before : length (take i xs) ≡ i = length-take-le i xs (omega arith) in
+    ap₂ (λ a b. a ++ y ∷ b) (take_at (take i xs) (drop (suc i) xs) i before) (drop_at (take i xs) (drop (suc i) xs) i before)
+    ∙ sym (set_split xs i y within)

@@ -1,5 +1,5 @@
 -- Keys that stand in places, one for each rank.
-use Rattle.std.proofs.Common.{◌≡◌, ℕ, ◌+◌, ◌<◌, ◌≤◌, cond, nat_eq, List, [], ◌∷◌, set, length, Option, None, Some, refl, sym, ap, ◌∙◌, subst, arith, lt-ltb, le-ltb, eq-eqb, ne_eqb, zero, suc, add-zero}
+use Rattle.std.proofs.Common.{◌≡◌, ℕ, ◌+◌, ◌<◌, ◌≤◌, cond, not, nat_eq, List, [], ◌∷◌, filter, set, length, Option, None, Some, refl, sym, ap, ◌∙◌, subst, arith, lt-ltb, le-ltb, eq-eqb, ne_eqb, zero, suc, add-zero}
 use Rattle.std.specs.List.{AllByRecursion}
 use Rattle.svd_rows.specs.Ranks.{IsRanked, set_key, stated, IsPlaced}
 
@@ -61,3 +61,28 @@ module _ {K : Type 0} where
   stated-set rank first new (Some key ∷ places) (suc n) h within e =
       ap (λ r. key ∷ r) (stated-set rank (first + 1) new places n h.1 (omega (arith, within)) (omega (arith, e)))
       ∙ sym (set_key-later rank new key (stated places) (omega (arith, e, h.0)))
+
+  -- keys of greater ranks all stay where those of a rank are left out
+  kept_above : (rank : K → ℕ) (r : ℕ) (keys : List K) → AllByRecursion (λ key. r < rank key) keys → filter (λ key. not (nat_eq (rank key) r)) keys ≡ keys
+  kept_above rank r [] h = refl
+  kept_above rank r (key ∷ keys) h =
+      ap (λ b. cond (not b) (key ∷ filter (λ other. not (nat_eq (rank other) r)) keys) (filter (λ other. not (nat_eq (rank other) r)) keys)) (ne_eqb (rank key) r (λ e. absurd (omega (arith, h.0))))
+      ∙ ap (λ rest. key ∷ rest) (kept_above rank r keys h.1)
+
+  kept_place : (rank : K → ℕ) (first r : ℕ) (places : List (Option K)) → IsPlaced rank (first + 1) places → r ≡ first → filter (λ key. not (nat_eq (rank key) r)) (stated places) ≡ stated places
+  kept_place rank first r places h e =
+      kept_above rank r (stated places) (subst (λ n. AllByRecursion (λ key. n < rank key) (stated places)) (sym e) (above_place rank first (stated places) (from_place rank (first + 1) (first + 1) places (omega arith) h)))
+
+  -- a key that is taken out of its place is left out by its rank
+  pub stated-unset : (rank : K → ℕ) (first r : ℕ) (places : List (Option K)) (n : ℕ) → IsPlaced rank first places → n < length places → r ≡ first + n → stated (set places n None) ≡ filter (λ key. not (nat_eq (rank key) r)) (stated places)
+  unfolding IsPlaced stated
+  stated-unset rank first r [] n h within e = absurd (omega (arith, within))
+  stated-unset rank first r (None ∷ places) zero h within e = sym (kept_place rank first r places h (e ∙ add-zero first))
+  stated-unset rank first r (Some key ∷ places) zero h within e =
+      sym
+      (ap (λ b. cond (not b) (key ∷ filter (λ other. not (nat_eq (rank other) r)) (stated places)) (filter (λ other. not (nat_eq (rank other) r)) (stated places))) (eq-eqb (rank key) r (h.0 ∙ sym (e ∙ add-zero first)))
+      ∙ kept_place rank first r places h.1 (e ∙ add-zero first))
+  stated-unset rank first r (None ∷ places) (suc n) h within e = stated-unset rank (first + 1) r places n h (omega (arith, within)) (omega (arith, e))
+  stated-unset rank first r (Some key ∷ places) (suc n) h within e =
+      ap (λ rest. key ∷ rest) (stated-unset rank (first + 1) r places n h.1 (omega (arith, within)) (omega (arith, e)))
+      ∙ sym (ap (λ b. cond (not b) (key ∷ filter (λ other. not (nat_eq (rank other) r)) (stated places)) (filter (λ other. not (nat_eq (rank other) r)) (stated places))) (ne_eqb (rank key) r (λ same. absurd (omega (arith, e, same, h.0)))))

@@ -31,6 +31,10 @@ renamed_path [] new (step ∷ path) = new step ∷ path
 renamed_path (test ∷ tests) new (step ∷ path) =
     step ∷ cond (test step) (renamed_path tests new path) path
 
+-- another step in the place of this one, and each other step as it is
+abbrev pub other_step : {S : Type 0} → (S → S → Bool) → S → S → S → S
+other_step same old new step = cond (same old step) new step
+
 -- the row under another path
 abbrev pub moved : {S K : Type 0} → (List S → List S) → Row S K → Row S K
 moved new row = record { path = new row.path; said = row.said }
