@@ -284,12 +284,3 @@ impl Described {
         Ok(Described::new(copied_device(alloc, self.device())?))
     }
 }
-
-impl Register {
-    /// The same register once more. Where memory is wanting nothing is changed.
-    pub fn copy(&self, alloc: Global) -> Result<Register, NoMemory>
-        ensures { IfOk result (λ made. register_tree made ≡ register_tree self.now) }
-    {
-        copied_register(alloc, self)
-    }
-}
