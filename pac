@@ -3,11 +3,13 @@
 top="$(cd "$(dirname "$0")" && pwd)" || exit 2
 program="$top/crates/pac_main/out/pac_main"
 if [ ! -x "$program" ]; then
-    echo "pac: proving and building it first; this takes some 15 minutes on two processors" >&2
-    (cd "$top/crates/pac_main" && rt run -- list data/one_register.svd) >"$top/crates/pac_main/out.log" 2>&1 || {
-        cat "$top/crates/pac_main/out.log" >&2
+    echo "pac: proving and building it first; this takes some ten minutes on two processors" >&2
+    log="$(mktemp)" || exit 2
+    if ! (cd "$top/crates/pac_main" && rt run -- list data/one_register.svd) >"$log" 2>&1; then
+        cat "$log" >&2
+        rm -f "$log"
         exit 2
-    }
-    rm -f "$top/crates/pac_main/out.log"
+    fi
+    rm -f "$log"
 fi
 exec "$program" "$@"
