@@ -15,7 +15,7 @@ Below indent (listing other first items ∷ runs) = ⊥
 Below indent (mapping other forest ∷ runs) = other < indent
 
 -- the entries as a run in front of others, where there are entries
-abbrev begun : ℕ → Forest → List Run → List Run
+abbrev pub begun : ℕ → Forest → List Run → List Run
 begun indent ended runs = runs
 begun indent (valued number key value others) runs = mapping indent (valued number key value others) ∷ runs
 begun indent (keyed number key others) runs = mapping indent (keyed number key others) ∷ runs

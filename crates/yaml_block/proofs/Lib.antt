@@ -6,3 +6,16 @@ pub mod Cutting
 pub mod Finding
 pub mod Quoting
 pub mod Blocks
+pub mod Nodes
+pub mod Answers
+pub mod Meanings
+pub mod Passing
+pub mod Verdicts
+pub mod Building
+pub mod Places
+pub mod Doubles
+pub mod Weighing
+pub mod Spelled
+pub mod Gathered
+pub mod UpTo
+pub mod Answering

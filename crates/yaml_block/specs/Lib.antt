@@ -7,3 +7,12 @@ pub mod Contents
 pub mod Lines
 pub mod Blocks
 pub mod Runs
+pub mod Trees
+pub mod Nodes
+pub mod Meanings
+pub mod Nesting
+pub mod Answers
+pub mod Passing
+pub mod Building
+pub mod Seen
+pub mod Judging

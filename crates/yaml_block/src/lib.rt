@@ -5,10 +5,15 @@
 #![tactic(auto)]
 
 mod block;
+mod build;
 mod content;
+mod fault;
 mod flow;
+mod keys;
 mod line;
 mod lines;
+mod node;
+mod pass;
 mod quoted;
 mod refusal;
 mod scalar;
@@ -17,9 +22,11 @@ mod space;
 mod tests;
 mod value;
 
-pub use block::one_mapping;
+pub use block::{one_mapping, one_node, read_block};
 pub use content::Content;
+pub use fault::BlockFault;
 pub use line::Line;
 pub use lines::{Found, read_lines};
+pub use node::{Entries, Items, Node};
 pub use quoted::quotes_as_spelled;
 pub use value::Value;
