@@ -1,5 +1,6 @@
 pub mod CallNames
 pub mod Fronts
+pub mod Givens
 pub mod IndexRanges
 pub mod Lookup
 pub mod Meanings

@@ -1,4 +1,5 @@
 pub mod AccessorNames
+pub mod Given
 pub mod Indexes
 pub mod Meanings
 pub mod Numbers

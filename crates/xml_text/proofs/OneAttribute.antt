@@ -56,23 +56,24 @@ quote_ends Double rest = refl
 quote_ends Single rest = refl
 
 -- a value in its quotes, behind white space
-record IsValue (value text rest : List ℕ) : Type 0 where
+record IsValue (value : List ℕ) (left : ℕ) (text rest : List ℕ) : Type 0 where
   quote : Quote
   inside : List ℕ
   opens : Follows (mark_of quote) text inside
   closes : inside ≡ value ++ (mark_of quote ++ rest)
   form : Passes (is_in (Value quote)) value
+  placed : left ≡ length inside
 
-value_takes : (text value rest : List ℕ) → value_at text ≡ Some (value, rest) → IsValue value text rest
+value_takes : (text value : List ℕ) (left : ℕ) (rest : List ℕ) → value_at text ≡ Some (value, left, rest) → IsValue value left text rest
 unfolding value_at
-value_takes text value rest e =
+value_takes text value left rest e =
     let opened = bind_some (quote_at (rest_of (has Blank) text))
-    (λ opened. stripped_of (mark_of opened.0) (rest_of (is_in (Value opened.0)) opened.1) >>= λ after. Some (front_of (is_in (Value opened.0)) opened.1, after)) (value, rest) e in
+    (λ opened. stripped_of (mark_of opened.0) (rest_of (is_in (Value opened.0)) opened.1) >>= λ after. Some (front_of (is_in (Value opened.0)) opened.1, length opened.1, after)) (value, left, rest) e in
     let quote = opened.0.0 in
     let inside = opened.0.1 in
     let front = front_of (is_in (Value quote)) inside in
-    let closed = bind_some (stripped_of (mark_of quote) (rest_of (is_in (Value quote)) inside)) (λ after. Some (front, after)) (value, rest) opened.2 in
-    let read : IsValue front text closed.0 = record {
+    let closed = bind_some (stripped_of (mark_of quote) (rest_of (is_in (Value quote)) inside)) (λ after. Some (front, length inside, after)) (value, left, rest) opened.2 in
+    let read : IsValue front (length inside) text closed.0 = record {
       quote = quote;
       inside = inside;
       opens = record {
@@ -82,12 +83,13 @@ value_takes text value rest e =
       };
       closes = sym (front-rest (is_in (Value quote)) inside) ∙ ap (λ (t : List ℕ). front ++ t) (stripped-Some (mark_of quote) (rest_of (is_in (Value quote)) inside) closed.0 closed.1);
       form = front_passes (is_in (Value quote)) inside;
+      placed = refl;
     } in
-    subst (λ (p : List ℕ × List ℕ). IsValue p.0 text p.1) (some_is (front, closed.0) (value, rest) closed.2) read
+    subst (λ (p : List ℕ × ℕ × List ℕ). IsValue p.0 p.1 text p.2) (some_is (front, length inside, closed.0) (value, left, rest) closed.2) read
 
-value_again : (text value rest : List ℕ) → IsValue value text rest → value_at text ≡ Some (value, rest)
+value_again : (text value : List ℕ) (left : ℕ) (rest : List ℕ) → IsValue value left text rest → value_at text ≡ Some (value, left, rest)
 unfolding value_at
-value_again text value rest is =
+value_again text value left rest is =
     let test = is_in (Value is.quote) in
     let opened : quote_at (rest_of (has Blank) text) ≡ Some (is.quote, is.inside) =
     ap (λ (t : List ℕ). quote_at (rest_of (has Blank) t)) is.opens.whole
@@ -95,7 +97,7 @@ value_again text value rest is =
     ∙ quote_again is.quote is.inside in
     let front = ap (front_of test) is.closes ∙ front-append test value (mark_of is.quote ++ rest) is.form (quote_ends is.quote rest) in
     let behind = ap (rest_of test) is.closes ∙ rest-append test value (mark_of is.quote ++ rest) is.form (quote_ends is.quote rest) in
-    rw (opened, behind, stripped-append (mark_of is.quote) rest, front) refl
+    rw (opened, behind, stripped-append (mark_of is.quote) rest, front, is.placed) refl
 
 equals_solid : IsSolid (codes "=")
 unfolding has
@@ -105,20 +107,20 @@ equals_ends : (rest : List ℕ) → StopsAt (is_in Name) (codes "=" ++ rest)
 unfolding is_in
 equals_ends rest = refl
 
-abbrev made : List ℕ → List ℕ → XmlAttribute
-made name value = record { name = name; value = value }
+abbrev made : List ℕ → List ℕ → ℕ → XmlAttribute
+made name value left = record { name = name; value = value; left = left }
 
 pub attribute_takes : (text : List ℕ) (attribute : XmlAttribute) (rest : List ℕ) → attribute_at text ≡ Some (attribute, rest) → IsAttribute attribute text rest
 unfolding attribute_at
 attribute_takes text attribute rest e =
-    let behind = bind_some (gap_at text) (λ behind. name_at behind >>= λ name. after_block (codes "=") name.1 >>= λ valued. value_at valued >>= λ value. Some (made name.0 value.0, value.1)) (attribute, rest) e in
-    let name = bind_some (name_at behind.0) (λ name. after_block (codes "=") name.1 >>= λ valued. value_at valued >>= λ value. Some (made name.0 value.0, value.1)) (attribute, rest) behind.2 in
-    let valued = bind_some (after_block (codes "=") name.0.1) (λ valued. value_at valued >>= λ value. Some (made name.0.0 value.0, value.1)) (attribute, rest) name.2 in
-    let value = bind_some (value_at valued.0) (λ value. Some (made name.0.0 value.0, value.1)) (attribute, rest) valued.2 in
+    let behind = bind_some (gap_at text) (λ behind. name_at behind >>= λ name. after_block (codes "=") name.1 >>= λ valued. value_at valued >>= λ value. Some (made name.0 value.0 value.1, value.2)) (attribute, rest) e in
+    let name = bind_some (name_at behind.0) (λ name. after_block (codes "=") name.1 >>= λ valued. value_at valued >>= λ value. Some (made name.0 value.0 value.1, value.2)) (attribute, rest) behind.2 in
+    let valued = bind_some (after_block (codes "=") name.0.1) (λ valued. value_at valued >>= λ value. Some (made name.0.0 value.0 value.1, value.2)) (attribute, rest) name.2 in
+    let value = bind_some (value_at valued.0) (λ value. Some (made name.0.0 value.0 value.1, value.2)) (attribute, rest) valued.2 in
     let gap = gap_takes text behind.0 behind.1 in
     let named = name_takes behind.0 name.0.0 name.0.1 name.1 in
-    let held = value_takes valued.0 value.0.0 value.0.1 value.1 in
-    let read : IsAttribute (made name.0.0 value.0.0) text value.0.1 = record {
+    let held = value_takes valued.0 value.0.0 value.0.1 value.0.2 value.1 in
+    let read : IsAttribute (made name.0.0 value.0.0 value.0.1) text value.0.2 = record {
       gap = gap.0;
       named = name.0.1;
       valued = valued.0;
@@ -132,8 +134,9 @@ attribute_takes text attribute rest e =
       closes = held.closes;
       name_form = named.1;
       value_form = held.form;
+      placed = held.placed;
     } in
-    subst (λ (p : XmlAttribute × List ℕ). IsAttribute p.0 text p.1) (some_is (made name.0.0 value.0.0, value.0.1) (attribute, rest) value.2) read
+    subst (λ (p : XmlAttribute × List ℕ). IsAttribute p.0 text p.1) (some_is (made name.0.0 value.0.0 value.0.1, value.0.2) (attribute, rest) value.2) read
 
 pub attribute_again : (attribute : XmlAttribute) (text rest : List ℕ) → IsAttribute attribute text rest → attribute_at text ≡ Some (attribute, rest)
 unfolding attribute_at
@@ -142,7 +145,7 @@ attribute_again attribute text rest is =
       gap_again is.gap text (attribute.name ++ is.named) (record { some = is.apart; white = is.white; whole = is.names }) (blanks_stop attribute.name is.named is.name_form),
       name_again attribute.name is.named is.name_form (block_stops (is_in Name) (codes "=") is.named is.valued blank_not_in (equals_ends is.valued) is.equals),
       block_again (codes "=") is.named is.valued equals_solid is.equals,
-      value_again is.valued attribute.value rest (record { quote = is.quote; inside = is.inside; opens = is.opens; closes = is.closes; form = is.value_form }),
+      value_again is.valued attribute.value attribute.left rest (record { quote = is.quote; inside = is.inside; opens = is.opens; closes = is.closes; form = is.value_form; placed = is.placed }),
     ) refl
 
 pub attribute_begins : (attribute : XmlAttribute) (text rest : List ℕ) → IsAttribute attribute text rest → begins_attribute text ≡ true

@@ -1,6 +1,6 @@
 -- The parts of a description's text (XML 1.0 without processing instructions, CDATA and document types). Each relation says that the text is the part,
 -- in the order of what it holds, and then the rest.
-use Rattle.std.specs.Prelude.{◌≡◌, ◌≢◌, ℕ, Bool, true, false, List, [], ◌++◌, map, codes}
+use Rattle.std.specs.Prelude.{◌≡◌, ◌≢◌, ℕ, Bool, true, false, List, [], ◌++◌, length, map, codes}
 use Rattle.text_scan.specs.declared.class.Class.TheVariants.{Blank}
 use Rattle.text_scan.specs.Classes.{has}
 use Rattle.text_scan.specs.Fronts.{Passes, StopsAt}
@@ -13,9 +13,11 @@ use Rattle.xml_text.specs.Names.{is_name, AreDistinct}
 use Rattle.xml_text.specs.Marks.{EndsAtFirst}
 use Rattle.xml_text.specs.References.{IsReference}
 
+-- an attribute; `left` is how many bytes of the text are left from the first byte of its value on
 pub record XmlAttribute : Type 0 where
   pub name : List ℕ
   pub value : List ℕ
+  pub left : ℕ
 
 -- a start tag; one that closes itself has no end tag
 pub record XmlTag : Type 0 where
@@ -45,6 +47,7 @@ pub record IsAttribute (attribute : XmlAttribute) (text rest : List ℕ) : Type 
   pub closes : inside ≡ attribute.value ++ (mark_of quote ++ rest)
   pub name_form : is_name attribute.name ≡ true
   pub value_form : Passes (is_in (Value quote)) attribute.value
+  pub placed : attribute.left ≡ length inside
 
 -- what ends a start tag
 unfoldable pub closer_of : Bool → List ℕ

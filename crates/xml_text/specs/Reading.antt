@@ -1,5 +1,5 @@
 -- Reading the parts of a text from left to right: what each function of the reader gives, on lists.
-use Rattle.std.specs.Prelude.{◌≡◌, ℕ, Bool, true, false, not, ◌&&◌, List, [], ◌∷◌, map, Option, Some, None, Result, Ok, Err, codes, ◌==◌, if◌then◌else◌}
+use Rattle.std.specs.Prelude.{◌≡◌, ℕ, Bool, true, false, not, ◌&&◌, List, [], ◌∷◌, length, map, Option, Some, None, Result, Ok, Err, codes, ◌==◌, if◌then◌else◌}
 use Rattle.std.specs.List.{list_any}
 use Rattle.std.specs.Str.{bytes_eq}
 use Rattle.text_scan.specs.declared.class.Class.TheVariants.{Blank}
@@ -44,11 +44,12 @@ unfoldable pub quote_at : List ℕ → Option (Quote × List ℕ)
 quote_at [] = None
 quote_at (first ∷ inside) = if first == 34 then Some (Double, inside) else (if first == 39 then Some (Single, inside) else None)
 
-unfoldable pub value_at : List ℕ → Option (List ℕ × List ℕ)
+-- a value, how many bytes are left from its first on, and what follows it
+unfoldable pub value_at : List ℕ → Option (List ℕ × ℕ × List ℕ)
 value_at text = do
   opened ← quote_at (rest_of (has Blank) text)
   rest ← stripped_of (mark_of opened.0) (rest_of (is_in (Value opened.0)) opened.1)
-  Some (front_of (is_in (Value opened.0)) opened.1, rest)
+  Some (front_of (is_in (Value opened.0)) opened.1, length opened.1, rest)
 
 -- whether an attribute's name stands behind white space
 unfoldable pub begins_attribute : List ℕ → Bool
@@ -60,7 +61,7 @@ attribute_at text = do
   name ← name_at behind
   valued ← after_block (codes "=") name.1
   value ← value_at valued
-  Some (record { name = name.0; value = value.0 }, value.1)
+  Some (record { name = name.0; value = value.0; left = value.1 }, value.2)
 
 -- whether no two of the names are the same
 unfoldable pub differ : List (List ℕ) → Bool

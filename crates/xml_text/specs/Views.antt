@@ -11,7 +11,7 @@ use Rattle.xml_text.specs.declared.part.Part.TheVariants.{Start, End, Text, Refe
 use Rattle.xml_text.specs.Parts.{XmlAttribute, XmlTag, XmlPart, starts, ends, says, refers, comments}
 
 abbrev pub attribute_of : Attribute → XmlAttribute
-attribute_of attribute = record { name = attribute.name.now; value = attribute.value.now }
+attribute_of attribute = record { name = attribute.name.now; value = attribute.value.now; left = attribute.left }
 
 abbrev pub attribute_name : Attribute → List ℕ
 attribute_name attribute = attribute.name.now

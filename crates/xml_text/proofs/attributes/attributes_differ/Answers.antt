@@ -12,7 +12,7 @@ loop-attribute-init c = record { same = ap (map (λ name. name.now)) c.new-seen.
 
 -- what a reading past the end gives
 abbrev past : Attribute
-past = record { name = record { ref_ptr = (0, 0); now = [] }; value = record { ref_ptr = (0, 0); now = [] } }
+past = record { name = record { ref_ptr = (0, 0); now = [] }; value = record { ref_ptr = (0, 0); now = [] }; left = 0 }
 
 abbrev at_index : List Attribute → ℕ → Attribute
 at_index attributes i = get_or attributes i past

@@ -1,0 +1,10 @@
+use Rattle.std.proofs.Common.{◌∙◌}
+use Rattle.std.specs.Str.{bytes_eq}
+use Rattle.svd_schema.specs.declared.container.Container.TheVariants.{Register}
+use Rattle.svd_schema.specs.Table.{row_of}
+use Rattle.svd_schema.proofs.Lookup.{located}
+use Rattle.svd_schema.proofs.rows.in_register.Goals as goal
+
+pub returns : goal.returns
+unfolding row_of
+returns c = c.value_in.ensures ∙ located (bytes_eq c.args.name.now) (row_of Register)

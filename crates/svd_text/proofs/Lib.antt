@@ -1,0 +1,10 @@
+pub mod Building
+pub mod Devices
+pub mod Judging
+pub mod OneText
+pub mod Outcomes
+pub mod PartsOf
+pub mod Passings
+pub mod Texts
+pub mod Walks
+pub mod White
