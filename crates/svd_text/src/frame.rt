@@ -132,6 +132,8 @@ impl<'a> Frame<'a> {
         ensures { element_of result ≡ closed total (open_of self.entry) closing.now behind.now }
     {
         let inside = self.opening.inside;
+        let mut children = self.children;
+        children.shrink_to_fit();
         Element {
             name: self.opening.name,
             name_at: self.opening.name_at,
@@ -139,7 +141,7 @@ impl<'a> Frame<'a> {
             inside_at: place(total, inside.len()),
             inside: &inside[..inside.len().saturating_sub(closing.len())],
             said: self.said,
-            children: self.children,
+            children,
             ends_at: place(total, behind.len()),
         }
     }

@@ -64,7 +64,7 @@ fn start_tag_with_both_quotes(rt: HostRuntime) -> Result<(), Fail> {
     assert!(rt; tag.closes_itself);
     assert_eq!(rt; tag.attributes.len(), 2);
     assert_eq!(rt; tag.attributes[0].value, b"A.B".as_slice());
-    assert_eq!(rt; tag.attributes[0].left, 22);
+    assert_eq!(rt; tag.attributes[0].left, 21);
     assert_eq!(rt; tag.attributes[1].name, b"x:y".as_slice());
     assert_eq!(rt; tag.attributes[1].value, b"&".as_slice());
     assert_eq!(rt; rest, b"&lt;".as_slice());
