@@ -1,0 +1,12 @@
+pub mod Earliest
+pub mod Texts
+pub mod Forms
+pub mod Children
+pub mod Runs
+pub mod Values
+pub mod Missing
+pub mod Places
+pub mod OwnFaults
+pub mod KeysOf
+pub mod WrittenNames
+pub mod Laws

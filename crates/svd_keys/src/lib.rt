@@ -1,0 +1,27 @@
+// What one element of a description states (CMSIS-SVD 1.3): the values of its keys, and every fault
+// that concerns the element by itself.
+
+#![tactic(auto)]
+
+mod child;
+mod fault;
+mod form;
+mod group;
+mod keys;
+mod law;
+mod missing;
+mod path;
+mod place;
+mod read;
+mod row;
+mod stated;
+#[cfg(test)]
+mod tests;
+mod text;
+mod written;
+
+pub use fault::{BadKind, Fault, PlacedFault, Required, earlier};
+pub use keys::{Keys, Stated};
+pub use law::{forms_law, least_law};
+pub use stated::read_keys;
+pub use written::{Written, is_reserved_name, sibling_name, written_name};
