@@ -3,5 +3,10 @@ pub mod Empty
 pub mod Entries
 pub mod Nesting
 pub mod Placed
+pub mod Seeking
+pub mod Served
+pub mod SoughtKeys
+pub mod Stated
 pub mod Steps
 pub mod Trees
+pub mod Walking

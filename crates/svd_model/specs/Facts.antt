@@ -4,9 +4,10 @@ use Rattle.std.specs.Prelude.{◌≡◌, ◌≢◌, ◌⊎◌, ℕ, ◌^◌, ◌
 use Rattle.std.specs.List.{AllByRecursion, list_all, list_any}
 use Rattle.pac_base.specs.Names.{IsWord, IsArrayName}
 use Rattle.svd_model.specs.declared.device.Device.{Device}
+use Rattle.svd_model.specs.Checking.{loose_faults}
 use Rattle.svd_model.specs.Keys.{Key, derived_from, dim_count, dim_index, base_address, at_offset, bit_width}
 use Rattle.svd_model.specs.Steps.{Step, Kind, peripheral, cluster, register, field, set, value, same_key}
-use Rattle.svd_model.specs.Trees.{device_tree}
+use Rattle.svd_model.specs.Trees.{device_tree, device_rows}
 use Rattle.svd_rows.specs.Elements.{IsDistinct, Every, count}
 use Rattle.svd_rows.specs.Forest.{Tree}
 use Rattle.svd_values.specs.declared.index.DimIndex.{DimIndex}
@@ -138,3 +139,8 @@ pub record IsUnfoldedTree (tree : Tree Step Key) : Type 0 where
 -- a device in which each list is unfolded
 abbrev pub IsUnfolded : Device → Type 0
 IsUnfolded device = IsUnfoldedTree (device_tree device)
+
+-- a device in which each list is unfolded, and in which checking finds no fault but overlaps
+pub record IsChecked (device : Device) : Type 0 where
+  pub unfolded : IsUnfolded device
+  pub faultless : loose_faults (device_rows device) ≡ []

@@ -4,16 +4,22 @@
 #![tactic(auto)]
 
 mod copy;
+mod counted;
 mod device;
 mod facts;
+mod laws;
+mod passages;
 mod props;
 mod sibling;
 mod states;
 #[cfg(test)]
 mod tests;
 
+pub use counted::Counted;
 pub use device::{Child, Cluster, Device, Dim, Field, Item, Peripheral, Register, Values, Variant};
 pub use facts::{FieldFacts, RegisterFacts};
+pub use laws::visits_law;
+pub use passages::UnbuiltFault;
 pub use props::{Props, properties_law};
 pub use sibling::Sibling;
 pub use states::{Checked, Derived, Described, Patched, Unfolded};

@@ -1,5 +1,5 @@
 ghost use Rattle.std.specs.Prelude.{◌≡◌};
-ghost use Rattle.svd_model.specs.Facts.{IsDescribed, IsDerived, IsUnfolded};
+ghost use Rattle.svd_model.specs.Facts.{IsDescribed, IsDerived, IsUnfolded, IsChecked};
 ghost use Rattle.svd_model.specs.Trees.{device_rows};
 
 use crate::device::Device;
@@ -205,19 +205,19 @@ impl Model for Checked {
     ghost use Rattle.svd_model.specs.Keys.{Key};
     ghost use Rattle.svd_model.specs.Steps.{Step};
     ghost use Rattle.svd_model.specs.Trees.{device_rows};
-    ghost use Rattle.svd_model.specs.Facts.{IsUnfolded};
+    ghost use Rattle.svd_model.specs.Facts.{IsChecked};
 
     ghost Value = { List (Row Step Key) };
 
     ghost view = { λ state. device_rows state.device };
 
-    ghost invariant = { λ state. IsUnfolded state.device };
+    ghost invariant = { λ state. IsChecked state.device };
 }
 
 impl Checked {
     /// The device in this state. Its condition is what the state says of a device.
     pub fn new(device: Device) -> Checked
-        requires { IsUnfolded device }
+        requires { IsChecked device }
         ensures { result ≡ device_rows device }
     {
         Checked { device }
@@ -226,7 +226,7 @@ impl Checked {
     /// The device, which has the same rows.
     pub fn device(&self) -> &Device
         ensures rows { device_rows result.now ≡ self.now }
-        ensures fact { IsUnfolded result.now }
+        ensures fact { IsChecked result.now }
     {
         &self.device
     }
@@ -234,7 +234,7 @@ impl Checked {
     /// The device itself, out of its state.
     pub fn into_device(self) -> Device
         ensures rows { device_rows result ≡ self }
-        ensures fact { IsUnfolded result }
+        ensures fact { IsChecked result }
     {
         self.device
     }

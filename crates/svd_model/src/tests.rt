@@ -106,3 +106,15 @@ fn copy_of_a_device(rt: HostRuntime) -> Result<(), Fail> {
     assert_eq!(rt; copy.device().name.as_str(), "EX32F1");
     Ok(())
 }
+
+#[test]
+fn passages_of_a_device(rt: HostRuntime) -> Result<(), Fail> {
+    let described = Described::new(device(rt.alloc())?);
+    let patched = Patched::of(described);
+    let passed = match Derived::of(rt.alloc(), patched) {
+        Ok(derived) => Unfolded::of(rt.alloc(), derived).is_ok(),
+        Err(_) => false,
+    };
+    assert!(rt; passed);
+    Ok(())
+}

@@ -1,0 +1,13 @@
+pub mod Lookup
+pub mod Printed
+pub mod Trees
+pub mod Modules
+pub mod Digits
+pub mod Productions
+pub mod RegisterProductions
+pub mod Braced
+pub mod ValuesProductions
+pub mod RegisterModules
+pub mod ModuleProductions
+pub mod CrateProductions
+pub mod Fine

@@ -1,0 +1,9 @@
+use Rattle.std.proofs.Common.{◌++◌, ap, sym, subst, List, ℕ, ◌≡◌, append_assoc, ◌∙◌}
+use Rattle.std.proofs.lemmas.Result.{err_from_is_err_and}
+use Rattle.pac_io.specs.Writing.{WritesUpTo}
+use Rattle.pac_io.proofs.WrittenUpTo.{none_written}
+use Rattle.frag_tree.proofs.crate_text.print_top.Goals as goal
+
+pub returns-in_err-push_line-clause-growth : goal.returns-in_err-push_line-clause-growth
+returns-in_err-push_line-clause-growth g c =
+    let p = err_from_is_err_and c.from_residual.result c.from_residual.ensures.1 in rw p.1 (none_written _ _)

@@ -1,0 +1,14 @@
+pub mod Identifiers
+pub mod EventLists
+pub mod Trees
+pub mod Numerals
+pub mod Blocks
+pub mod Registers
+pub mod Crates
+pub mod Worked
+pub mod Parts
+pub mod Validity
+pub mod Productions
+pub mod RegisterProductions
+pub mod ModuleProductions
+pub mod Laws

@@ -1,0 +1,27 @@
+use crate::block::Block;
+use crate::identifier::Identifier;
+use pac_base::Seq;
+
+/// A crate: its slots, and a block module for each kind of peripheral
+/// (`Crate = use Slots Block*` of the crate text).
+#[derive(Drop)]
+pub struct Crate {
+    /// The fields of `Peripherals`.
+    pub slots: Seq<Slot>,
+    /// The block modules at the top.
+    pub blocks: Vec<Block>,
+    /// The byte at which each item of the text starts, in the order of the text. Empty for a crate
+    /// that was not read from a text. No part of the tree.
+    pub places: Seq<usize>,
+}
+
+/// A peripheral at its address: `pub NAME: Periph<MODULE::RegisterBlock, ADDRESS>,`.
+#[derive(Drop)]
+pub struct Slot {
+    /// The name of the peripheral.
+    pub name: Identifier,
+    /// The block module of its registers.
+    pub block: Identifier,
+    /// The address of its first byte.
+    pub address: u64,
+}

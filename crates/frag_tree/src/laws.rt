@@ -1,0 +1,59 @@
+ghost use Rattle.frag_words.specs.Readings.{IsExact, OneTree};
+ghost use Rattle.frag_tree.specs.declared.access.Access.{Access};
+ghost use Rattle.frag_tree.specs.declared.block.Element.{Element};
+ghost use Rattle.frag_tree.specs.declared.block.FieldType.{FieldType};
+ghost use Rattle.frag_tree.specs.declared.block.StructField.{StructField};
+ghost use Rattle.frag_tree.specs.declared.krate.Slot.{Slot};
+ghost use Rattle.frag_tree.specs.declared.register.Reader.{Reader};
+ghost use Rattle.frag_tree.specs.declared.register.RegisterModule.{RegisterModule};
+ghost use Rattle.frag_tree.specs.declared.register.Values.{Values};
+ghost use Rattle.frag_tree.specs.declared.register.Writer.{Writer};
+ghost use Rattle.frag_tree.specs.Laws.{OneCrate, ParsesRead, ReadsParsed, WordsOfPrinted};
+ghost use Rattle.frag_tree.specs.ModuleProductions.{block_reading, block_words, module_reading, module_words, modules_reading, modules_words, valid_module};
+ghost use Rattle.frag_tree.specs.Productions.{access_reading, access_words, element_reading, element_words, field_reading, field_words, slot_reading, slot_words, type_reading, type_words};
+ghost use Rattle.frag_tree.specs.RegisterProductions.{reader_reading, reader_words, register_reading, register_words, values_reading, values_words, writer_reading, writer_words};
+ghost use Rattle.frag_tree.specs.Trees.{BlockTree, ModuleTree, Modules};
+ghost use Rattle.frag_tree.specs.Validity.{valid_access, valid_block, valid_element, valid_field, valid_modules, valid_reader, valid_register, valid_slot, valid_type, valid_values, valid_writer};
+
+/// The words of one tree of a production, followed by any words, are never the words of another tree
+/// of that production, followed by any words.
+pub fn words_law()
+    ensures slot { OneTree Slot slot_words valid_slot }
+    ensures element { OneTree Element element_words valid_element }
+    ensures field_type { OneTree FieldType type_words valid_type }
+    ensures field { OneTree StructField field_words valid_field }
+    ensures access { OneTree Access access_words valid_access }
+    ensures reader { OneTree Reader reader_words valid_reader }
+    ensures writer { OneTree Writer writer_words valid_writer }
+    ensures values { OneTree Values values_words valid_values }
+    ensures register { OneTree RegisterModule register_words valid_register }
+    ensures block { OneTree BlockTree block_words valid_block }
+    ensures module_tree { OneTree ModuleTree module_words valid_module }
+    ensures modules { OneTree Modules modules_words valid_modules }
+{}
+
+/// The readers of the productions read what was printed, and what they read has the words of the
+/// printed form.
+pub fn readings_law()
+    ensures slot { IsExact Slot slot_reading }
+    ensures element { IsExact Element element_reading }
+    ensures field_type { IsExact FieldType type_reading }
+    ensures field { IsExact StructField field_reading }
+    ensures access { IsExact Access access_reading }
+    ensures reader { IsExact Reader reader_reading }
+    ensures writer { IsExact Writer writer_reading }
+    ensures values { IsExact Values values_reading }
+    ensures register { IsExact RegisterModule register_reading }
+    ensures block { IsExact BlockTree block_reading }
+    ensures module_tree { IsExact ModuleTree module_reading }
+    ensures modules { IsExact Modules modules_reading }
+{}
+
+/// The words of a printed crate are those of its productions, and at most one crate fits a text: the
+/// one that the reader of crates gives.
+pub fn crate_law()
+    ensures words { WordsOfPrinted }
+    ensures one { OneCrate }
+    ensures read { ReadsParsed }
+    ensures parsed { ParsesRead }
+{}

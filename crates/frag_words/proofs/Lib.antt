@@ -1,0 +1,4 @@
+pub mod Readings
+pub mod Lists
+pub mod Further
+pub mod Joints

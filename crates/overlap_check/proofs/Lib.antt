@@ -1,0 +1,11 @@
+pub mod Clashing
+pub mod Elements
+pub mod Empty
+pub mod FirstFault
+pub mod Firsts
+pub mod LookedUp
+pub mod Members
+pub mod Pairs
+pub mod Places
+pub mod Rules
+pub mod Stated

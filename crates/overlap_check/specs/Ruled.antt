@@ -1,0 +1,58 @@
+-- The elements of the flat rows that break a rule, and the fault that this is.
+use Rattle.std.specs.Prelude.{List, [], Option, option_map, map, reverse}
+use Rattle.overlap_check.specs.declared.fault.CheckFault.{CheckFault}
+use Rattle.overlap_check.specs.declared.fault.CheckFault.TheVariants.{BadWidth, AddressRange, Misaligned, FieldRange, NameClash}
+use Rattle.overlap_check.specs.declared.rule.Rule.{Rule}
+use Rattle.pac_base.specs.declared.path.Step.{Step as Written}
+use Rattle.overlap_check.specs.declared.rule.Rule.TheVariants.{Width, Range, Alignment, Fields}
+use Rattle.overlap_check.specs.Told.{told_fault, first_of}
+use Rattle.overlap_check.specs.Meetings.{first_clash}
+use Rattle.overlap_check.specs.Walks.{device_place, first_in, or_else}
+use Rattle.svd_model.specs.declared.device.Device.{Device}
+use Rattle.svd_model.specs.Checking.{Fault, bad_width, address_range, misaligned, field_range, bad_widths, past_ranges, uneven, fields_past, loose_faults}
+use Rattle.svd_model.specs.Keys.{Key}
+use Rattle.svd_model.specs.Steps.{Step}
+use Rattle.svd_model.specs.Trees.{device_tree}
+use Rattle.svd_rows.specs.Rows.{Row}
+
+-- the elements that break a rule, in document order
+abbrev pub faults_of : Rule → List (Row Step Key) → List (List Step)
+faults_of Width all = bad_widths all
+faults_of Range all = past_ranges all
+faults_of Alignment all = uneven all
+faults_of Fields all = fields_past all
+
+-- the fault of an element that breaks it
+abbrev pub fault_of : Rule → List Step → Fault
+fault_of Width path = bad_width path
+fault_of Range path = address_range path
+fault_of Alignment path = misaligned path
+fault_of Fields path = field_range path
+
+-- the first of all faults, as it is told
+unfoldable pub first_fault_of : List (Row Step Key) → Option CheckFault
+first_fault_of all = first_of (map told_fault (loose_faults all))
+
+-- ---- what walking finds
+
+-- the told fault of an element that breaks a rule
+abbrev pub fault_at : Rule → List Written → CheckFault
+fault_at Width path = BadWidth path
+fault_at Range path = AddressRange path
+fault_at Alignment path = Misaligned path
+fault_at Fields path = FieldRange path
+
+-- the first element of the device that breaks the rule
+unfoldable pub broken_in : Rule → Device → Option CheckFault
+broken_in rule device =
+    option_map (λ inner. fault_at rule (reverse inner)) (first_in rule (device_place device.props.size) (device_tree device).below)
+
+-- the first two siblings of the device that have one accessor name
+unfoldable pub clashing_in : Device → Option CheckFault
+clashing_in device =
+    option_map (λ clash. NameClash (reverse clash.first) (reverse clash.second)) (first_clash [] (device_tree device).below)
+
+-- the kinds one after the other
+abbrev pub fault_in : Device → Option CheckFault
+fault_in device =
+    or_else (broken_in Width device) (or_else (broken_in Range device) (or_else (broken_in Alignment device) (or_else (broken_in Fields device) (clashing_in device))))

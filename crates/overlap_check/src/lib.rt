@@ -1,0 +1,17 @@
+// The faults of a whole description in which each list is unfolded: sizes that no register has, addresses past
+// 64 bits or off a register's width, fields past their register, and siblings that would share an accessor.
+#![tactic(auto)]
+
+mod checking;
+mod clash;
+mod fault;
+mod meeting;
+mod place;
+mod rule;
+mod telling;
+#[cfg(test)]
+mod tests;
+mod walk;
+
+pub use checking::check;
+pub use fault::{CheckFault, Policy};
