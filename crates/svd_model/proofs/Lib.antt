@@ -10,3 +10,4 @@ pub mod Stated
 pub mod Steps
 pub mod Trees
 pub mod Walking
+pub mod Counts

@@ -5,6 +5,7 @@
 
 mod copy;
 mod counted;
+mod counting;
 mod device;
 mod facts;
 mod laws;
