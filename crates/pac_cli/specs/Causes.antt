@@ -6,9 +6,11 @@ use Rattle.pac_io.specs.Rose.{Rose}
 use Rattle.pac_io.specs.Writing.{AppendsPrefix}
 use Rattle.pac_cli.specs.Answers.{Answer, refused, prints, FileMap, IsAnswer}
 use Rattle.pac_cli.specs.Commands.{command_of, files_of}
+use Rattle.pac_cli.specs.Resolving.{Cause}
+use Rattle.pac_cli.specs.Showing.{Shows, IsShown}
 use Rattle.pac_cli.specs.declared.command.Command.{Command}
 use Rattle.pac_cli.specs.declared.fault.PacFault.{PacFault}
-use Rattle.pac_cli.specs.declared.fault.PacFault.TheVariants.{Memory, Words, Read, Write, Svd, Limit}
+use Rattle.pac_cli.specs.declared.fault.PacFault.TheVariants.{Memory, Words, Read, Write, Svd, Unbuilt, Check, Limit}
 use Rattle.pac_cli.specs.declared.fault.WordsFault.{WordsFault}
 use Rattle.pac_cli.specs.declared.fault.WordsFault.TheVariants.{Clap}
 
@@ -87,14 +89,14 @@ pub record FailsToWrite (words : List (List ℕ)) (old new : World) : Type 0 whe
   pub rose : Rose old.write_faults new.write_faults
   pub output : WritesPart words old new
 
--- the input is refused: where the files are told, the answer to them is this fault
+-- the input is refused: where the files are told, the answer to them is a refusal whose cause this fault shows
 pub record RefusesInput (words : List (List ℕ)) (old new : World) (fault : PacFault) : Type 0 where
   pub command : Command
   pub taken : command_of words ≡ Some command
   pub asks : Asks old new (files_of command)
   pub reads : new.read_faults ≡ old.read_faults
   pub writes : WritesNothing old new
-  pub decided : IfSome old.files (λ files. IsAnswer words files (refused fault))
+  pub decided : IfSome old.files (λ files. (cause : Cause) × IsAnswer words files (refused cause) × Shows fault cause)
 
 abbrev pub StandsAt : List (List ℕ) → World → World → PacFault → Type 0
 StandsAt words old new Memory = RunsOutOfMemory words old new
@@ -102,6 +104,8 @@ StandsAt words old new (Words fault) = RefusesWords words old new fault
 StandsAt words old new (Read name) = FailsToRead words old new name
 StandsAt words old new Write = FailsToWrite words old new
 StandsAt words old new (Svd fault) = RefusesInput words old new (Svd fault)
+StandsAt words old new (Unbuilt path) = RefusesInput words old new (Unbuilt path)
+StandsAt words old new (Check fault) = RefusesInput words old new (Check fault)
 StandsAt words old new (Limit fault) = RefusesInput words old new (Limit fault)
 
 -- what stands after the call, for each fault and for none
@@ -120,6 +124,8 @@ status_at (Words fault) = 2
 status_at (Read name) = 3
 status_at Write = 4
 status_at (Svd fault) = 6
+status_at (Unbuilt path) = 8
+status_at (Check fault) = 8
 status_at (Limit fault) = 11
 
 abbrev pub status_of : Option PacFault → ℕ
@@ -128,11 +134,11 @@ status_of (Some fault) = status_at fault
 
 -- the answer itself came, or want of memory did
 abbrev pub Comes : Answer → Option PacFault → Type 0
-Comes (refused fault) found = (found ≡ Some fault) ⊎ (found ≡ Some Memory)
+Comes (refused cause) found = IsShown found cause ⊎ (found ≡ Some Memory)
 Comes (prints output) found = (found ≡ None) ⊎ (found ≡ Some Memory)
 
 -- Where no count of faults rose, the one answer to the words and the told files comes, or want of
 -- memory; and where they are refused in no way, the whole output was written, or memory was wanting.
 pub record IsComplete (words : List (List ℕ)) (old new : World) (found : Option PacFault) : Type 0 where
   pub decided : IfSome old.files (λ files. (answer : Answer) → IsAnswer words files answer → (Rose old.read_faults new.read_faults → ⊥) → (Rose old.write_faults new.write_faults → ⊥) → Comes answer found)
-  pub accepted : IfSome old.files (λ files. ((fault : PacFault) → IsAnswer words files (refused fault) → ⊥) → (Rose old.read_faults new.read_faults → ⊥) → (Rose old.write_faults new.write_faults → ⊥) → (found ≡ None) ⊎ (found ≡ Some Memory))
+  pub accepted : IfSome old.files (λ files. ((cause : Cause) → IsAnswer words files (refused cause) → ⊥) → (Rose old.read_faults new.read_faults → ⊥) → (Rose old.write_faults new.write_faults → ⊥) → (found ≡ None) ⊎ (found ≡ Some Memory))

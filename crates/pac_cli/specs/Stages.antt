@@ -4,13 +4,21 @@ use Rattle.std.specs.Io.KnownBytes.{Appends}
 use Rattle.pac_io.specs.Asking.{and_asked}
 use Rattle.pac_io.specs.Rose.{Rose}
 use Rattle.pac_io.specs.Writing.{AppendsPrefix}
-use Rattle.plain_model.specs.Plain.{AddressesFit, plain_of}
-use Rattle.plain_model.specs.declared.device.Device.{Device}
-use Rattle.plain_reader.specs.PlainForm.{IsPlain}
-use Rattle.pac_cli.specs.Answers.{FileMap, IsNotPlain, longest}
+use Rattle.pac_base.specs.declared.path.Step.{Step as NamedStep}
+use Rattle.overlap_check.specs.Told.{first_of, told_fault}
+use Rattle.svd_model.specs.Checking.{Fault, loose_faults}
+use Rattle.svd_model.specs.Keys.{Key}
+use Rattle.svd_model.specs.Steps.{Step}
+use Rattle.svd_model.specs.Unbuilt.{first_dimension}
+use Rattle.svd_model.specs.declared.passages.UnbuiltFault.{UnbuiltFault}
+use Rattle.svd_model.specs.declared.passages.UnbuiltFault.TheVariants as unbuilt
+use Rattle.svd_reader.specs.Described.{Answer as Reading, too_many, described, HasAnswer}
+use Rattle.svd_rows.specs.Rows.{Row}
+use Rattle.pac_cli.specs.Answers.{FileMap, longest}
+use Rattle.pac_cli.specs.Resolving.{Cause, not_described, stopped, checked, ComeTo}
+use Rattle.pac_cli.specs.Showing.{Shows, TellsReading, ShowsLimit}
 use Rattle.pac_cli.specs.declared.fault.PacFault.{PacFault}
-use Rattle.pac_cli.specs.declared.fault.PacFault.TheVariants.{Memory, Words, Read, Write, Svd, Limit}
-use Rattle.pac_cli.specs.declared.fault.SvdFault.TheVariants.{NotPlain}
+use Rattle.pac_cli.specs.declared.fault.PacFault.TheVariants.{Memory, Words, Read, Write, Svd, Unbuilt, Check, Limit}
 use Rattle.pac_cli.specs.declared.fault.LimitFault.{LimitFault}
 use Rattle.pac_cli.specs.declared.fault.LimitFault.TheVariants.{FileTooLong}
 
@@ -58,6 +66,8 @@ ReadFault name old new (Words fault) = ⊥
 ReadFault name old new (Read told_name) = HasFailed name told_name old new
 ReadFault name old new Write = ⊥
 ReadFault name old new (Svd fault) = ⊥
+ReadFault name old new (Unbuilt path) = ⊥
+ReadFault name old new (Check fault) = ⊥
 ReadFault name old new (Limit fault) = IsTooLong name fault old new
 
 -- reading the file of this name
@@ -65,23 +75,60 @@ abbrev pub ReadsInput : List ℕ → Shelf → Shelf → Result (List ℕ) PacFa
 ReadsInput name old new (Ok bytes) = HasRead name bytes old new
 ReadsInput name old new (Err fault) = ReadFault name old new fault
 
-abbrev pub DescribesFault : List ℕ → PacFault → Type 0
-DescribesFault bytes Memory = Unit {0}
-DescribesFault bytes (Words fault) = ⊥
-DescribesFault bytes (Read name) = ⊥
-DescribesFault bytes Write = ⊥
-DescribesFault bytes (Svd fault) = (fault ≡ NotPlain) × IsNotPlain bytes
-DescribesFault bytes (Limit fault) = ⊥
+-- a fault that the bytes decide: it shows the cause for which they come to nothing
+abbrev pub IsDecided : List ℕ → PacFault → Type 0
+IsDecided bytes fault = (cause : Cause) × ComeTo bytes (stopped cause) × Shows fault cause
 
--- the bytes describe the device, and its registers end within the addresses below 2^64
-pub record HasDescribed (bytes : List ℕ) (device : Device) : Type 0 where
-  pub plain : IsPlain (plain_of device) bytes
-  pub fits : AddressesFit (plain_of device)
+abbrev pub ResolveFault : List ℕ → PacFault → Type 0
+ResolveFault bytes Memory = Unit {0}
+ResolveFault bytes (Words fault) = ⊥
+ResolveFault bytes (Read name) = ⊥
+ResolveFault bytes Write = ⊥
+ResolveFault bytes fault = IsDecided bytes fault
 
--- the device that the bytes describe
-abbrev pub Describes : List ℕ → Result Device PacFault → Type 0
-Describes bytes (Ok device) = HasDescribed bytes device
-Describes bytes (Err fault) = DescribesFault bytes fault
+-- the rows to which the bytes of a description come, which hold no dimension, or why they come to none
+abbrev pub Resolves : List ℕ → Result (List (Row Step Key)) PacFault → Type 0
+Resolves bytes (Ok rows) = ComeTo bytes (checked rows) × (first_dimension rows ≡ None)
+Resolves bytes (Err fault) = ResolveFault bytes fault
+
+-- the bytes are answered by a fault of the description, or pass a limit of its parts
+abbrev pub DescribeFault : List ℕ → PacFault → Type 0
+DescribeFault bytes Memory = Unit {0}
+DescribeFault bytes (Svd fault) = (reading : Reading) × HasAnswer bytes reading × TellsReading fault reading
+DescribeFault bytes (Limit fault) = (elements : ℕ) × HasAnswer bytes (too_many elements) × ShowsLimit fault (not_described (too_many elements))
+DescribeFault bytes _ = ⊥
+
+-- reading the bytes of a description
+abbrev pub Describes : List ℕ → Result (List (Row Step Key)) PacFault → Type 0
+Describes bytes (Ok rows) = HasAnswer bytes (described rows)
+Describes bytes (Err fault) = DescribeFault bytes fault
+
+-- the first element that isn't served yet is told
+abbrev pub PassFault : Option (List NamedStep) → PacFault → Type 0
+PassFault first Memory = Unit {0}
+PassFault first (Unbuilt path) = first ≡ Some path
+PassFault first _ = ⊥
+
+-- the fault of a passage as that of the call
+abbrev pub passage_fault : UnbuiltFault → PacFault
+passage_fault (unbuilt.Unbuilt path) = Unbuilt path
+passage_fault unbuilt.Memory = Memory
+
+-- the rows have no element that isn't served yet, and stay
+abbrev pub Passes : Option (List NamedStep) → List (Row Step Key) → Result (List (Row Step Key)) PacFault → Type 0
+Passes first rows (Ok same) = (same ≡ rows) × (first ≡ None)
+Passes first rows (Err fault) = PassFault first fault
+
+-- the rows are at fault as a whole
+abbrev pub CheckedFault : List (Row Step Key) → PacFault → Type 0
+CheckedFault rows Memory = Unit {0}
+CheckedFault rows (Check fault) = (found : Fault) × (first_of (loose_faults rows) ≡ Some found) × (fault ≡ told_fault found)
+CheckedFault rows _ = ⊥
+
+-- the rows are without fault, and stay
+abbrev pub Checks : List (Row Step Key) → Result (List (Row Step Key)) PacFault → Type 0
+Checks rows (Ok same) = (same ≡ rows) × (loose_faults rows ≡ [])
+Checks rows (Err fault) = CheckedFault rows fault
 
 -- what an output tells at one moment
 pub record Paper : Type 0 where
@@ -112,6 +159,8 @@ WriteFault text old new (Words fault) = ⊥
 WriteFault text old new (Read name) = ⊥
 WriteFault text old new Write = HasBrokenOff text old new
 WriteFault text old new (Svd fault) = ⊥
+WriteFault text old new (Unbuilt path) = ⊥
+WriteFault text old new (Check fault) = ⊥
 WriteFault text old new (Limit fault) = ⊥
 
 -- writing this text

@@ -1,4 +1,7 @@
-use pac_base::Text;
+use overlap_check::CheckFault;
+use pac_base::{Path, Text};
+use svd_model::Counted;
+use svd_reader::SvdFault;
 use thiserror::Error;
 
 /// Why a call of `pac` didn't do what its words asked for.
@@ -22,6 +25,15 @@ pub enum PacFault {
     /// The description is refused. Status 6.
     #[error("{0}")]
     Svd(SvdFault),
+    /// An element can't be served yet: one that is derived, has a dimension, or is a cluster. Status 8.
+    #[error("an element is not built yet")]
+    Unbuilt {
+        /// The written names down to the first such element.
+        path: Path,
+    },
+    /// The description as a whole is refused. Status 8.
+    #[error("{0}")]
+    Check(CheckFault),
     /// The input passes a limit. Status 11.
     #[error("{0}")]
     Limit(LimitFault),
@@ -35,14 +47,6 @@ pub enum WordsFault {
     Clap,
 }
 
-/// Why a description is refused.
-#[derive(Debug, Drop, Error)]
-pub enum SvdFault {
-    /// It isn't a description of plain registers.
-    #[error("not plain")]
-    NotPlain,
-}
-
 /// Which limit the input passes.
 #[derive(Debug, Drop, Error)]
 pub enum LimitFault {
@@ -53,5 +57,13 @@ pub enum LimitFault {
         name: Text,
         /// How many bytes it may have.
         limit: u64,
+    },
+    /// There are too many parts of a description.
+    #[error("too many parts: {count}")]
+    TooMany {
+        /// What is counted.
+        kind: Counted,
+        /// How many there are.
+        count: u64,
     },
 }

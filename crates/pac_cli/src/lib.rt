@@ -4,13 +4,15 @@
 
 mod command;
 mod fault;
+mod fault_text;
 mod laws;
 mod listing;
 mod outcome;
+mod resolving;
 mod run;
 mod telling;
 
-pub use fault::{LimitFault, PacFault, SvdFault, WordsFault};
+pub use fault::{LimitFault, PacFault, WordsFault};
 pub use laws::one_answer;
 pub use outcome::{Outcome, Told};
 pub use run::run_pac;

@@ -1,23 +1,25 @@
+ghost use Rattle.std.specs.Prelude.{◌≡◌, All, IfErr, IfOk, None};
 ghost use Rattle.std.specs.Result.{result_err};
-ghost use Rattle.pac_cli.specs.Stages.{ReadsInput, Describes, WritesText, shelf, paper};
 ghost use Rattle.pac_cli.specs.Causes.{StandsFor, world};
+ghost use Rattle.pac_cli.specs.Stages.{ReadsInput, WritesText, paper, shelf};
 ghost use Rattle.pac_cli.specs.declared.command.Command.TheVariants.{Listing};
-ghost use Rattle.plain_list.specs.Listing.{listing};
-ghost use Rattle.plain_model.specs.Plain.{AddressesFit, plain_of};
-ghost use Rattle.std.specs.Prelude.{◌≡◌};
+ghost use Rattle.pac_cli.specs.declared.fault.PacFault.TheVariants.{Memory};
+ghost use Rattle.reg_table.specs.Listing.{IsListed, listing};
+ghost use Rattle.reg_table.specs.Registers.{table_of};
+ghost use Rattle.svd_model.specs.Unbuilt.{first_dimension};
 
-use crate::fault::{LimitFault, PacFault, SvdFault};
-use pac_base::Text;
+use crate::fault::{LimitFault, PacFault};
+use crate::resolving::resolve;
+use pac_base::{NoMemory, Text};
 use pac_io::{Bytes, Files, FilesFault, Sink, SinkFault};
-use plain_list::list_plain;
-use plain_model::Device;
-use plain_reader::{PlainFault, read_plain};
+use reg_table::{Table, list_text, table};
 use std::alloc::Global;
+use svd_model::Checked;
 
 /// How many bytes a description may have: 64 MiB.
 const LONGEST: u64 = 67_108_864;
 
-/// Writes a line for each register of the description named `svd`.
+/// Writes a line for each register of the description named `svd`, and one for each of its fields.
 pub(crate) fn list<F: Files, S: Sink>(
     alloc: Global,
     svd: Text,
@@ -30,8 +32,8 @@ pub(crate) fn list<F: Files, S: Sink>(
         (result_err result) }
 {
     let bytes = read_input(alloc, svd, files)?;
-    let device = described(alloc, bytes.as_slice())?;
-    write_listing(alloc, &device, out)
+    let state = resolve(alloc, bytes.as_slice())?;
+    write_listing(alloc, &state, out)
 }
 
 /// The bytes of the file of this name.
@@ -51,25 +53,36 @@ fn read_input<F: Files>(alloc: Global, name: Text, files: &mut F) -> Result<Byte
     }
 }
 
-/// The device of plain registers that the bytes describe.
-fn described(alloc: Global, bytes: &[u8]) -> Result<Device, PacFault>
-    ensures { Describes bytes.now result }
+/// The table of the description's registers, which can be listed.
+fn rows_of(alloc: Global, state: &Checked) -> Result<Table, PacFault>
+    requires { first_dimension state.now ≡ None }
+    ensures rows { IfOk result (λ rows. rows ≡ table_of state.now) }
+    ensures listed { IfOk result (λ rows. All IsListed rows) }
+    ensures memory { IfErr result (λ fault. fault ≡ Memory) }
 {
-    match read_plain(alloc, bytes) {
-        Ok(device) => Ok(device),
-        Err(PlainFault::NotPlain) => Err(PacFault::Svd(SvdFault::NotPlain)),
-        Err(PlainFault::Memory) => Err(PacFault::Memory),
+    match table(alloc, state) {
+        Ok(rows) => Ok(rows),
+        Err(NoMemory) => Err(PacFault::Memory),
     }
 }
 
-/// Writes a line for each register of the device.
-fn write_listing<S: Sink>(alloc: Global, device: &Device, out: &mut S) -> Result<(), PacFault>
-    requires { AddressesFit (plain_of device.now) }
-    ensures { WritesText (listing (plain_of device.now)) (paper (S.written out.old) (S.faults out.old)) (paper (S.written out.new) (S.faults out.new)) result }
+/// Writes the lines of the rows.
+fn write_rows<S: Sink>(alloc: Global, rows: &Table, out: &mut S) -> Result<(), PacFault>
+    requires { All IsListed rows.now }
+    ensures { WritesText (listing rows.now) (paper (S.written out.old) (S.faults out.old)) (paper (S.written out.new) (S.faults out.new)) result }
 {
-    match list_plain(alloc, device, out) {
+    match list_text(alloc, rows, out) {
         Ok(()) => Ok(()),
         Err(SinkFault::Failed) => Err(PacFault::Write),
         Err(SinkFault::Memory) => Err(PacFault::Memory),
     }
+}
+
+/// Writes the lines of the description's registers and fields.
+fn write_listing<S: Sink>(alloc: Global, state: &Checked, out: &mut S) -> Result<(), PacFault>
+    requires { first_dimension state.now ≡ None }
+    ensures { WritesText (listing (table_of state.now)) (paper (S.written out.old) (S.faults out.old)) (paper (S.written out.new) (S.faults out.new)) result }
+{
+    let rows = rows_of(alloc, state)?;
+    write_rows(alloc, &rows, out)
 }

@@ -1,8 +1,9 @@
-ghost use Rattle.std.specs.Prelude.{◌≡◌, ◌++◌, OnOk, OnErr, IfOk};
-ghost use Rattle.pac_cli.specs.FaultTexts.{fault_line, text_of, words_text, svd_text, limit_text};
+ghost use Rattle.std.specs.Prelude.{◌≡◌, IfOk};
+ghost use Rattle.pac_cli.specs.FaultTexts.{fault_line};
 ghost use Rattle.pac_cli.specs.Telling.{Tells, voice};
 
-use crate::fault::{LimitFault, PacFault, SvdFault, WordsFault};
+use crate::fault::PacFault;
+use crate::fault_text::push_text;
 use crate::outcome::Told;
 use pac_base::NoMemory;
 use pac_io::{Page, Sink, SinkFault};
@@ -33,58 +34,4 @@ fn line_of(alloc: Global, fault: &PacFault) -> Result<Page, NoMemory>
     push_text(&mut page, fault)?;
     page.push(b"\n")?;
     Ok(page)
-}
-
-#[tactic(auto, unfolding(crate::specs::FaultTexts::text_of))]
-fn push_text(page: &mut Page, fault: &PacFault) -> Result<(), NoMemory>
-    ensures { OnOk result (page.new ≡ page.old ++ text_of fault.now) }
-{
-    match fault {
-        PacFault::Memory => page.push(b"out of memory"),
-        PacFault::Words(fault) => push_words(page, fault),
-        PacFault::Read { name } => push_pair(page, b"cannot read ", name.as_str().as_bytes()),
-        PacFault::Write => page.push(b"cannot write"),
-        PacFault::Svd(fault) => push_svd(page, fault),
-        PacFault::Limit(fault) => push_limit(page, fault),
-    }
-}
-
-fn push_pair(page: &mut Page, first: &[u8], second: &[u8]) -> Result<(), NoMemory>
-    ensures { OnOk result (page.new ≡ page.old ++ (first.now ++ second.now)) }
-{
-    page.push(first)?;
-    page.push(second)
-}
-
-#[tactic(auto, unfolding(crate::specs::FaultTexts::words_text))]
-fn push_words(page: &mut Page, fault: &WordsFault) -> Result<(), NoMemory>
-    ensures { OnOk result (page.new ≡ page.old ++ words_text fault.now) }
-{
-    match fault {
-        WordsFault::Clap => page.push(
-            b"usage: pac list SVD, generate SVD, exec CRATE SCRIPT, run SVD SCRIPT or sample NUMBER COUNT, with --patch P, --strict, --bus zero or memory",
-        ),
-    }
-}
-
-#[tactic(auto, unfolding(crate::specs::FaultTexts::svd_text))]
-fn push_svd(page: &mut Page, fault: &SvdFault) -> Result<(), NoMemory>
-    ensures { OnOk result (page.new ≡ page.old ++ svd_text fault.now) }
-{
-    match fault {
-        SvdFault::NotPlain => page.push(b"description: not plain"),
-    }
-}
-
-#[tactic(auto, unfolding(crate::specs::FaultTexts::limit_text))]
-fn push_limit(page: &mut Page, fault: &LimitFault) -> Result<(), NoMemory>
-    ensures { OnOk result (page.new ≡ page.old ++ limit_text fault.now) }
-{
-    match fault {
-        LimitFault::FileTooLong { name, limit } => {
-            push_pair(page, name.as_str().as_bytes(), b" is longer than ")?;
-            page.decimal(*limit)?;
-            page.push(b" bytes")
-        }
-    }
 }

@@ -1,0 +1,6 @@
+pub mod Calls
+pub mod Fields
+pub mod Listing
+pub mod Masks
+pub mod Registers
+pub mod Walk

@@ -1,0 +1,16 @@
+pub mod Members
+pub mod Gathered
+pub mod Runs
+pub mod Apart
+pub mod Made
+pub mod Roles
+pub mod SeenNames
+pub mod NoFaults
+pub mod SiblingNames
+pub mod StatedForms
+pub mod FieldPlaces
+pub mod FaultlessFacts
+pub mod Answered
+pub mod Outcomes
+pub mod Doubles
+pub mod OneDescription
