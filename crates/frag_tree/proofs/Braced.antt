@@ -1,15 +1,13 @@
 -- The words of lists in braces, and lists of calls up to the closing brace.
-use Rattle.std.proofs.Common.{ℕ, ◌≡◌, ◌≤◌, List, [], ◌∷◌, ◌++◌, length, Bool, true, false, refl, sym, ap, ◌∙◌, map, arith, ◌+◌, append_assoc}
+use Rattle.std.proofs.Common.{ℕ, ◌≡◌, ◌≤◌, List, [], ◌∷◌, ◌++◌, length, true, refl, ap, ◌∙◌, map, arith}
 use Rattle.std.specs.Prelude.{codes}
 use Rattle.std.specs.List.{flat_map}
 use Rattle.std.proofs.lemmas.Grind.{flat_map-append}
 use Rattle.std.proofs.lemmas.List.{append-nil}
 use Rattle.std.proofs.lemmas.List.Folds.{flat_map-map}
-use Rattle.frag_words.specs.Lines.{Line, Piece, line, fixed, braced, line_words, lines_words, piece_words, text}
-use Rattle.frag_words.specs.Readings.{Reading, IsExact, fixed_words, word_is, list_until}
+use Rattle.frag_words.specs.Lines.{Line, Piece, fixed, braced, line_words, lines_words, piece_words}
+use Rattle.frag_words.specs.Readings.{Reading, IsExact, word_is}
 use Rattle.frag_words.specs.Words.{Word, words_in, words_behind}
-use Rattle.frag_words.proofs.Readings.{Tells}
-use Rattle.frag_words.proofs.Lists.{Ends}
 use Rattle.frag_words.proofs.Further.{list_until_exact}
 use Rattle.frag_tree.specs.RegisterProductions.{calls_until}
 

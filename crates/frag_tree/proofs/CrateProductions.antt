@@ -1,16 +1,15 @@
 -- The production of a crate is exact, up to the end of the text.
-use Rattle.std.proofs.Common.{ℕ, ◌≡◌, ◌≤◌, ◌+◌, List, [], ◌∷◌, ◌++◌, length, Bool, true, false, Option, Some, None, refl, sym, ap, ap₂, ◌∙◌, map, append_assoc, arith, zero, suc, length-append, drop}
-use Rattle.std.specs.Prelude.{◌&&◌, codes, option_map}
+use Rattle.std.proofs.Common.{ℕ, ◌≡◌, ◌≤◌, List, [], ◌∷◌, ◌++◌, length, true, Option, Some, None, refl, sym, ap, ap₂, ◌∙◌, arith, zero, suc, length-append, drop}
+use Rattle.std.specs.Prelude.{codes, option_map}
 use Rattle.std.specs.List.{flat_map, list_all}
 use Rattle.std.proofs.Math.Bool.{and-true}
 use Rattle.std.proofs.lemmas.Grind.{flat_map-append}
-use Rattle.std.proofs.lemmas.List.{append-nil}
-use Rattle.frag_words.specs.Lines.{Line, line_words, lines_words, text, braced}
-use Rattle.frag_words.specs.Readings.{Reading, IsExact, then_read, expected, word_is}
+use Rattle.frag_words.specs.Lines.{line_words, lines_words, text}
+use Rattle.frag_words.specs.Readings.{IsExact, then_read, expected}
 use Rattle.frag_words.specs.Words.{Word, words_in, words_behind}
 use Rattle.frag_words.proofs.Readings.{given, both, both_left, both_right, some_is, then_some, expected-append, expected_some}
 use Rattle.frag_tree.specs.declared.krate.Slot.{Slot}
-use Rattle.frag_tree.specs.Blocks.{block_tree_lines, opening_lines}
+use Rattle.frag_tree.specs.Blocks.{opening_lines}
 use Rattle.frag_tree.specs.Crates.{slot_line, slots_lines, top_lines, crate_lines, crate_words}
 use Rattle.frag_tree.specs.ModuleProductions.{block_words, block_reading, slots_reading, read_blocks, with_blocks, crate_head, read_crate}
 use Rattle.frag_tree.specs.Productions.{slot_reading}

@@ -1,5 +1,5 @@
 -- The lines of the printed form are told apart into their words.
-use Rattle.std.proofs.Common.{ℕ, ◌≡◌, ◌≤◌, ◌<◌, ◌+◌, ◌/◌, ◌%◌, ◌^◌, List, [], ◌∷◌, ◌++◌, length, Bool, true, false, Option, Some, None, refl, sym, ap, ◌∙◌, map, arith, zero, suc}
+use Rattle.std.proofs.Common.{ℕ, ◌≡◌, ◌≤◌, ◌<◌, ◌+◌, ◌/◌, ◌%◌, ◌^◌, List, [], ◌∷◌, ◌++◌, length, Bool, true, false, Option, Some, None, refl, map, arith, zero, suc}
 use Rattle.std.specs.Prelude.{nat_le, ◌&&◌, ◌||◌, ◌==◌, not, codes, if◌then◌else◌}
 use Rattle.std.specs.Fmt.{digits, digits_onto, digit_glyph}
 use Rattle.std.specs.List.{flat_map, list_all}
@@ -9,7 +9,7 @@ use Rattle.std.proofs.lemmas.Fmt.{decimal_nonempty}
 use Rattle.pac_base.specs.Names.{is_word_byte}
 use Rattle.pac_base.specs.declared.width.Width.{Width}
 use Rattle.pac_base.specs.declared.width.Width.TheVariants.{W8, W16, W32, W64}
-use Rattle.frag_words.specs.Lines.{Piece, Line, text, word, line, fixed, braced, lines_text, lines_words}
+use Rattle.frag_words.specs.Lines.{Piece, Line, text, word, fixed, braced}
 use Rattle.frag_words.specs.Words.{Word, words_in}
 use Rattle.frag_words.specs.Joined.{is_run, is_joined, Runs, IsFine, AreFine}
 use Rattle.frag_words.proofs.Joints.{words_of_lines, fine-append, fine-map, fine-flat_map}
@@ -38,11 +38,11 @@ use Rattle.frag_tree.specs.declared.register.Writable.{Writable}
 use Rattle.frag_tree.specs.declared.register.WriteForm.{WriteForm}
 use Rattle.frag_tree.specs.declared.register.WriteForm.TheVariants as write
 use Rattle.frag_tree.specs.declared.register.Writer.{Writer}
-use Rattle.frag_tree.specs.Blocks.{element_pieces, type_pieces, array_pieces, field_line, index_text, body_pieces, access_line, struct_lines, accessor_lines, prelude_line, opening_lines, modules_lines, block_tree_lines}
+use Rattle.frag_tree.specs.Blocks.{element_pieces, type_pieces, array_pieces, field_line, index_text, body_pieces, access_line, struct_lines, accessor_lines, opening_lines, modules_lines}
 use Rattle.frag_tree.specs.Crates.{slot_line, slots_lines, top_lines, crate_lines, printed, crate_words}
 use Rattle.frag_tree.specs.Identifiers.{is_identifier, is_keyword, is_start}
-use Rattle.frag_tree.specs.Numerals.{hexadecimal_word, decimal_word, width_word, truth_word, hexadecimal, decimal, width, truth}
-use Rattle.frag_tree.specs.Registers.{kind_word, writable_line, writable_lines, reset_line, marker_line, reader_line, writer_line, read_pieces, write_pieces, readable_lines, readers_lines, writers_lines, truth_call_line, number_call_line, opening_pieces, calls_lines, values_lines, part_lines, register_lines}
+use Rattle.frag_tree.specs.Numerals.{hexadecimal_word, decimal_word, width_word, truth_word, decimal}
+use Rattle.frag_tree.specs.Registers.{kind_word, writable_lines, reset_line, marker_line, reader_line, writer_line, readable_lines, readers_lines, writers_lines, truth_call_line, number_call_line, opening_pieces, values_lines, part_lines, register_lines}
 use Rattle.frag_tree.specs.Trees.{BlockHead, BlockTree, CrateTree, Modules, ended, register, block}
 use Rattle.frag_tree.specs.Validity.{is_number, valid_slot, valid_element, valid_type, valid_field, valid_body, valid_access, valid_constant, valid_writable, valid_read, valid_reader, valid_write, valid_writer, valid_truth, valid_number, valid_values, valid_option, valid_register, valid_head, valid_modules, valid_block, valid_crate}
 

@@ -1,20 +1,19 @@
 -- The productions of block modules and of the modules inside one parent are exact.
-use Rattle.std.proofs.Common.{ℕ, ◌≡◌, ◌≤◌, ◌+◌, List, [], ◌∷◌, ◌++◌, length, Bool, true, false, Option, Some, None, ◌⊎◌, inl, inr, refl, sym, ap, ap₂, ◌∙◌, map, append_assoc, arith, zero, suc, length-append, drop}
+use Rattle.std.proofs.Common.{ℕ, ◌≡◌, ◌≤◌, ◌+◌, List, [], ◌∷◌, ◌++◌, length, Bool, true, false, Option, ◌⊎◌, inl, inr, refl, sym, ap, ap₂, ◌∙◌, map, append_assoc, arith, zero, suc, length-append, drop}
 use Rattle.std.specs.Prelude.{◌&&◌, not, codes, if◌then◌else◌}
-use Rattle.std.specs.List.{flat_map, list_all}
+use Rattle.std.specs.List.{list_all}
 use Rattle.std.proofs.Math.Bool.{and-true}
 use Rattle.std.proofs.lemmas.Grind.{flat_map-append}
 use Rattle.std.proofs.lemmas.List.{append-nil}
-use Rattle.frag_words.specs.Lines.{Line, Piece, line, fixed, braced, line_words, lines_words, piece_words, text, word}
-use Rattle.frag_words.specs.Readings.{Reading, IsExact, then_read, expected, behind, pair, mapped, either, restated, fixed_words, word_is, list_until}
+use Rattle.frag_words.specs.Lines.{Line, fixed, braced, line_words, lines_words, text}
+use Rattle.frag_words.specs.Readings.{IsExact, then_read, expected, pair, mapped, either, word_is}
 use Rattle.frag_words.specs.Words.{Word, words_in, words_behind}
 use Rattle.frag_words.proofs.Readings.{Tells, given, both, both_left, both_right, some_is, then_some, expected_some, behind_exact, pair_exact, mapped_exact, either_exact}
-use Rattle.frag_words.proofs.Lists.{Ends}
 use Rattle.frag_words.proofs.Further.{restated_exact, list_until_exact}
 use Rattle.frag_tree.specs.declared.access.Access.{Access}
 use Rattle.frag_tree.specs.declared.block.StructField.{StructField}
 use Rattle.frag_tree.specs.declared.register.RegisterModule.{RegisterModule}
-use Rattle.frag_tree.specs.Blocks.{opening_lines, modules_lines, block_lines, block_tree_lines, module_lines, field_line, access_line, struct_lines, accessor_lines, prelude_line}
+use Rattle.frag_tree.specs.Blocks.{opening_lines, modules_lines, block_lines, field_line, access_line, accessor_lines}
 use Rattle.frag_tree.specs.Identifiers.{is_identifier}
 use Rattle.frag_tree.specs.ModuleProductions.{head_words, head_of, head_parts, struct_head, fields_reading, head_raw, head_reading, with_register, with_block, with_end, read_modules, modules_words, modules_reading, block_words, block_of, block_parts, block_reading, module_words, valid_module, module_of, module_side, module_reading}
 use Rattle.frag_tree.specs.Productions.{identifier, field_reading, access_reading}

@@ -5,7 +5,7 @@ use Rattle.std.specs.List.{flat_map}
 use Rattle.std.proofs.lemmas.Grind.{flat_map-append}
 use Rattle.std.proofs.lemmas.List.{append-nil, drop_all}
 use Rattle.std.proofs.Math.Seq.{drop-cons}
-use Rattle.frag_words.specs.Lines.{Line, fixed, line_text, lines_text}
+use Rattle.frag_words.specs.Lines.{fixed, line_text, lines_text}
 use Rattle.pac_io.specs.WrittenUpTo.{WrittenUpTo}
 use Rattle.pac_io.specs.Writing.{AppendsPrefix, WritesUpTo}
 use Rattle.pac_io.specs.declared.fault.SinkFault.{SinkFault}

@@ -1,18 +1,16 @@
 -- The productions of the crate text are exact.
-use Rattle.std.proofs.Common.{ℕ, ◌≡◌, ◌+◌, ◌<◌, ◌≤◌, ◌*◌, ◌^◌, ◌/◌, ◌%◌, List, [], ◌∷◌, ◌++◌, length, Bool, true, false, Option, Some, None, ◌⊎◌, inl, inr, refl, sym, ap, ◌∙◌, drop, arith}
-use Rattle.std.specs.Prelude.{◌&&◌, codes, if◌then◌else◌}
-use Rattle.std.specs.Fmt.{digits, digits_onto}
-use Rattle.std.specs.List.{flat_map, list_all}
+use Rattle.std.proofs.Common.{ℕ, ◌≡◌, List, [], ◌∷◌, ◌++◌, Bool, true, false, ◌⊎◌, inl, inr, refl, sym, ap, ◌∙◌}
+use Rattle.std.specs.Prelude.{◌&&◌, codes}
+use Rattle.std.specs.List.{flat_map}
 use Rattle.std.specs.Str.{bytes_eq}
 use Rattle.std.proofs.lemmas.Slice.Eq.{bytes_eq-Decides}
 use Rattle.std.proofs.lemmas.Grind.{flat_map-append}
 use Rattle.std.proofs.lemmas.List.{append-nil}
-use Rattle.frag_words.specs.Lines.{line_words, piece_words, text}
-use Rattle.frag_words.specs.Readings.{Reading, IsExact, word_where, spelled, behind, followed, pair, mapped, words_of_either, valid_either, either, list_then, restated, fixed_words, word_is, among, one_of, choice, list_until, option_then, flag_then}
+use Rattle.frag_words.specs.Lines.{piece_words, text}
+use Rattle.frag_words.specs.Readings.{Reading, IsExact, behind, followed, pair, mapped, words_of_either, either, word_is, among}
 use Rattle.frag_words.specs.Words.{Word, words_in, words_behind}
-use Rattle.frag_words.proofs.Readings.{Tells, given, both_left, both_right, both, some_is, if_some, word_exact, spelled_exact, behind_exact, followed_exact, pair_exact, mapped_exact, either_exact}
-use Rattle.frag_words.proofs.Lists.{Ends, list_exact}
-use Rattle.frag_words.proofs.Further.{restated_exact, nothing_exact, fixed_exact, one_of_exact, TellsWords, choice_exact, list_until_exact, option_exact, flag_exact}
+use Rattle.frag_words.proofs.Readings.{Tells, given, both_left, both_right, some_is, if_some, word_exact, spelled_exact, behind_exact, followed_exact, pair_exact, mapped_exact, either_exact}
+use Rattle.frag_words.proofs.Further.{restated_exact, one_of_exact, choice_exact}
 use Rattle.pac_base.specs.declared.width.Width.{Width}
 use Rattle.pac_base.specs.declared.width.Width.TheVariants.{W8, W16, W32, W64}
 use Rattle.frag_tree.specs.declared.access.Access.{Access}

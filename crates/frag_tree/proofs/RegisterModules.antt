@@ -7,13 +7,12 @@ use Rattle.std.proofs.Math.Bool.{and-true}
 use Rattle.std.proofs.lemmas.Grind.{flat_map-append}
 use Rattle.std.proofs.lemmas.List.{append-nil}
 use Rattle.std.proofs.lemmas.List.Folds.{flat_map-map}
-use Rattle.frag_words.specs.Lines.{Line, Piece, line, fixed, braced, line_words, lines_words, piece_words, text, word}
-use Rattle.frag_words.specs.Readings.{Reading, IsExact, behind, pair, mapped, restated, fixed_words, word_is, list_until, option_then, flag_then, list_then}
+use Rattle.frag_words.specs.Lines.{Line, line, fixed, line_words, lines_words, text, word}
+use Rattle.frag_words.specs.Readings.{IsExact, behind, pair, mapped, word_is}
 use Rattle.frag_words.specs.Words.{Word, words_in, words_behind}
 use Rattle.frag_words.proofs.Readings.{Tells, behind_exact, pair_exact, mapped_exact}
 use Rattle.frag_words.proofs.Lists.{Ends, list_exact}
 use Rattle.frag_words.proofs.Further.{restated_exact, list_until_exact, option_exact, flag_exact}
-use Rattle.pac_base.specs.declared.width.Width.{Width}
 use Rattle.frag_tree.specs.declared.register.Constant.{Constant}
 use Rattle.frag_tree.specs.declared.register.Reader.{Reader}
 use Rattle.frag_tree.specs.declared.register.RegisterModule.{RegisterModule}
@@ -24,7 +23,7 @@ use Rattle.frag_tree.specs.declared.register.Writer.{Writer}
 use Rattle.frag_tree.specs.Identifiers.{is_identifier}
 use Rattle.frag_tree.specs.Numerals.{width_word}
 use Rattle.frag_tree.specs.Productions.{identifier, width_reading}
-use Rattle.frag_tree.specs.RegisterProductions.{writable_reading, writable_raw, reset_words, reset_reading, marker_reading, reader_words, reader_reading, writer_words, writer_reading, calls_until, values_words, values_reading, begins_impl, readers_reading, writers_reading, values_part, writers_part, readers_part, markers_part, reset_part, writable_part, readable_part, RegisterParts, register_head, register_raw, register_of, register_parts, register_words, register_reading}
+use Rattle.frag_tree.specs.RegisterProductions.{writable_reading, reset_words, reset_reading, marker_reading, reader_reading, writer_reading, calls_until, values_words, values_reading, begins_impl, readers_reading, writers_reading, values_part, writers_part, readers_part, markers_part, reset_part, writable_part, readable_part, RegisterParts, register_head, register_raw, register_of, register_parts, register_words, register_reading}
 use Rattle.frag_tree.specs.Registers.{opening_pieces, truth_call_line, number_call_line, readable_lines, writable_lines, reset_line, marker_line, reader_line, writer_line, readers_lines, writers_lines, values_lines, part_lines, register_lines}
 use Rattle.frag_tree.specs.Validity.{valid_constant, valid_writable, valid_reader, valid_writer, valid_values, valid_option, valid_register}
 use Rattle.frag_tree.proofs.Braced.{braced_words, one_word, some_words, until_brace}

@@ -1,17 +1,12 @@
 -- The productions of register modules are exact.
-use Rattle.std.proofs.Common.{ℕ, ◌≡◌, ◌+◌, ◌≤◌, List, [], ◌∷◌, ◌++◌, length, Bool, true, false, Option, Some, None, ◌⊎◌, inl, inr, refl, sym, ap, ◌∙◌, arith, map, append_assoc}
+use Rattle.std.proofs.Common.{ℕ, ◌≡◌, List, ◌++◌, Bool, true, false, ◌⊎◌, inl, inr, refl, sym}
 use Rattle.std.specs.Prelude.{◌&&◌, codes}
-use Rattle.std.specs.List.{flat_map, list_all}
 use Rattle.std.proofs.Math.Bool.{and-true}
-use Rattle.std.proofs.lemmas.Grind.{flat_map-append}
-use Rattle.std.proofs.lemmas.List.{append-nil}
-use Rattle.std.proofs.lemmas.List.Folds.{flat_map-map}
-use Rattle.frag_words.specs.Lines.{Line, Piece, line, fixed, braced, line_words, lines_words, piece_words, text}
-use Rattle.frag_words.specs.Readings.{Reading, IsExact, behind, followed, pair, mapped, words_of_either, valid_either, either, list_then, restated, fixed_words, word_is, list_until, option_then, flag_then}
+use Rattle.frag_words.specs.Lines.{line_words}
+use Rattle.frag_words.specs.Readings.{IsExact, mapped, restated, word_is}
 use Rattle.frag_words.specs.Words.{Word, words_in, words_behind}
-use Rattle.frag_words.proofs.Readings.{Tells, given, behind_exact, followed_exact, pair_exact, mapped_exact, either_exact}
-use Rattle.frag_words.proofs.Lists.{Ends, list_exact}
-use Rattle.frag_words.proofs.Further.{restated_exact, list_until_exact, option_exact, flag_exact}
+use Rattle.frag_words.proofs.Readings.{Tells, behind_exact, followed_exact, pair_exact, mapped_exact, either_exact}
+use Rattle.frag_words.proofs.Further.{restated_exact}
 use Rattle.pac_base.specs.declared.width.Width.{Width}
 use Rattle.frag_tree.specs.declared.register.BitKind.{BitKind}
 use Rattle.frag_tree.specs.declared.register.BitKind.TheVariants as kind
@@ -20,19 +15,15 @@ use Rattle.frag_tree.specs.declared.register.NumberCall.{NumberCall}
 use Rattle.frag_tree.specs.declared.register.ReadForm.{ReadForm}
 use Rattle.frag_tree.specs.declared.register.ReadForm.TheVariants as read
 use Rattle.frag_tree.specs.declared.register.Reader.{Reader}
-use Rattle.frag_tree.specs.declared.register.RegisterModule.{RegisterModule}
 use Rattle.frag_tree.specs.declared.register.TruthCall.{TruthCall}
-use Rattle.frag_tree.specs.declared.register.Values.{Values}
-use Rattle.frag_tree.specs.declared.register.Values.TheVariants as values
 use Rattle.frag_tree.specs.declared.register.Writable.{Writable}
 use Rattle.frag_tree.specs.declared.register.WriteForm.{WriteForm}
 use Rattle.frag_tree.specs.declared.register.WriteForm.TheVariants as write
 use Rattle.frag_tree.specs.declared.register.Writer.{Writer}
 use Rattle.frag_tree.specs.Identifiers.{is_identifier}
-use Rattle.frag_tree.specs.Numerals.{width_word}
 use Rattle.frag_tree.specs.Productions.{identifier, hexadecimal_reading, decimal_reading, width_reading, truth_reading, kind_reading}
-use Rattle.frag_tree.specs.RegisterProductions.{constant_of, constant_parts, constant_reading, writable_words, writable_of, writable_parts, writable_raw, writable_reading, reset_words, reset_raw, reset_reading, marker_reading, bit_reader_raw, field_reader_raw, cast_words, reader_words, reader_of, read_parts, reader_parts, reader_raw, reader_reading, field_writer_raw, bit_writer_raw, again_words, writer_words, writer_of, write_parts, writer_parts, writer_raw, writer_reading, truth_of, truth_parts, truth_raw, truth_test, truth_write, number_of, number_parts, number_raw, number_test, number_write, calls_until}
-use Rattle.frag_tree.specs.Registers.{kind_word, truth_test_line, truth_write_line, number_test_line, number_write_line}
+use Rattle.frag_tree.specs.RegisterProductions.{constant_of, constant_parts, constant_reading, writable_words, writable_of, writable_parts, writable_raw, writable_reading, reset_words, reset_raw, reset_reading, marker_reading, bit_reader_raw, field_reader_raw, cast_words, reader_words, reader_of, read_parts, reader_parts, reader_raw, reader_reading, field_writer_raw, bit_writer_raw, again_words, writer_words, writer_of, write_parts, writer_parts, writer_raw, writer_reading, truth_of, truth_parts, truth_raw, truth_test, truth_write, number_of, number_parts, number_raw, number_test, number_write}
+use Rattle.frag_tree.specs.Registers.{truth_test_line, truth_write_line, number_test_line, number_write_line}
 use Rattle.frag_tree.specs.Validity.{is_number, valid_constant, valid_writable, valid_reader, valid_read, valid_writer, valid_write, valid_truth, valid_number}
 use Rattle.frag_tree.proofs.Productions.{identifier_exact, hexadecimal_exact, decimal_exact, width_exact, truth_exact, kind_exact}
 

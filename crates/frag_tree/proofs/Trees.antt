@@ -1,5 +1,5 @@
 -- The equations of the trees of blocks and modules.
-use Rattle.std.proofs.Common.{◌≡◌, List, map, sym, ap, ◌∙◌, refl, ◌++◌, ◌+◌, ℕ}
+use Rattle.std.proofs.Common.{◌≡◌, map, sym, ap, ◌∙◌}
 use Rattle.frag_tree.specs.declared.block.Block.{Block, out-Block}
 use Rattle.frag_tree.specs.declared.block.Module.{Module}
 use Rattle.frag_tree.specs.declared.block.Module.TheVariants.{Block as BlockModule, Register as RegisterOf, rolls-Block, rolls-Register}
@@ -7,7 +7,7 @@ use Rattle.frag_tree.specs.declared.block.Module.TheOpen.{Block-F, Module-F}
 use Rattle.frag_tree.specs.declared.block.Module.TheOpen as opened
 use Rattle.frag_tree.specs.declared.block.Module.TheFolds.{fold-Module, fold-roll-Module, fold_out-Block}
 use Rattle.frag_tree.specs.declared.register.RegisterModule.{RegisterModule}
-use Rattle.frag_tree.specs.Trees.{BlockTree, ModuleTree, Modules, one_block, one_register, block_layer, module_layer, block_tree, module_tree, in_line, before}
+use Rattle.frag_tree.specs.Trees.{BlockTree, ModuleTree, one_block, one_register, block_layer, module_layer, block_tree, module_tree, in_line}
 
 pub module_tree-block : (part : Block) → module_tree (BlockModule part) ≡ one_block (block_tree part)
 unfolding module_tree block_tree

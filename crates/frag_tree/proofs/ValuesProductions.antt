@@ -1,11 +1,10 @@
 -- The production of blocks of values is exact.
-use Rattle.std.proofs.Common.{ℕ, ◌≡◌, ◌≤◌, List, [], ◌∷◌, ◌++◌, length, Bool, true, false, ◌⊎◌, inl, inr, refl, sym, ap, ◌∙◌, map}
+use Rattle.std.proofs.Common.{ℕ, ◌≡◌, List, [], ◌++◌, true, false, ◌⊎◌, inl, inr, refl, sym, ap}
 use Rattle.std.specs.Prelude.{◌&&◌, codes}
 use Rattle.std.specs.List.{flat_map, list_all}
 use Rattle.std.proofs.Math.Bool.{and-true}
 use Rattle.std.proofs.lemmas.List.{append-nil}
-use Rattle.frag_words.specs.Lines.{line_words, lines_words, piece_words}
-use Rattle.frag_words.specs.Readings.{Reading, IsExact, behind, pair, mapped, words_of_either, either, restated, word_is}
+use Rattle.frag_words.specs.Readings.{IsExact, mapped, words_of_either, either, word_is}
 use Rattle.frag_words.specs.Words.{Word, words_in, words_behind}
 use Rattle.frag_words.proofs.Readings.{Tells, behind_exact, pair_exact, mapped_exact, either_exact}
 use Rattle.frag_words.proofs.Further.{restated_exact}
@@ -19,9 +18,9 @@ use Rattle.frag_tree.specs.declared.register.Values.TheVariants as values
 use Rattle.frag_tree.specs.Identifiers.{is_identifier}
 use Rattle.frag_tree.specs.Productions.{identifier, decimal_reading, width_reading, kind_reading}
 use Rattle.frag_tree.specs.RegisterProductions.{truth_test, truth_write, number_test, number_write, calls_until, bit_reading_raw, field_reading_raw, bit_writing_raw, field_writing_raw, ValuesParts, values_words, values_of, values_parts, values_raw, values_reading}
-use Rattle.frag_tree.specs.Registers.{opening_pieces, truth_call_line, number_call_line, kind_word}
+use Rattle.frag_tree.specs.Registers.{opening_pieces, truth_call_line, number_call_line}
 use Rattle.frag_tree.specs.Validity.{is_number, valid_truth, valid_number, valid_values}
-use Rattle.frag_tree.proofs.Braced.{braced_words, one_word, until_brace}
+use Rattle.frag_tree.proofs.Braced.{braced_words, until_brace}
 use Rattle.frag_tree.proofs.Productions.{identifier_exact, decimal_exact, width_exact, kind_exact}
 use Rattle.frag_tree.proofs.RegisterProductions.{truth_test_exact, truth_write_exact, number_test_exact, number_write_exact}
 

@@ -2,7 +2,7 @@
 -- crate a text parses as.
 use Rattle.std.specs.Prelude.{ℕ, ◌≡◌, List, [], ◌∷◌, ◌++◌, codes, map}
 use Rattle.std.specs.List.{flat_map}
-use Rattle.frag_words.specs.Lines.{Line, text, word, line, fixed, braced, empty_line, lines_text, lines_words}
+use Rattle.frag_words.specs.Lines.{Line, text, word, line, braced, empty_line, lines_text, lines_words}
 use Rattle.frag_words.specs.Words.{Word, words_in}
 use Rattle.frag_tree.specs.declared.krate.Slot.{Slot}
 use Rattle.frag_tree.specs.Blocks.{block_tree_lines, prelude_line}

@@ -1,6 +1,5 @@
 -- The laws of the words of a crate text.
-use Rattle.std.specs.Prelude.{ℕ, ◌≡◌, List, Option, Some, Bool, true}
-use Rattle.frag_words.specs.Readings.{OneTree}
+use Rattle.std.specs.Prelude.{ℕ, ◌≡◌, List, Some, true}
 use Rattle.frag_words.specs.Words.{words_in}
 use Rattle.frag_tree.specs.Crates.{Parses, printed, crate_words}
 use Rattle.frag_tree.specs.ModuleProductions.{read_crate}

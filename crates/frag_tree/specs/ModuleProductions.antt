@@ -1,7 +1,6 @@
 -- The productions of block modules, of the modules inside one parent, and of a whole crate.
-use Rattle.std.specs.Prelude.{ℕ, List, [], ◌∷◌, ◌++◌, length, Bool, not, Option, Some, None, codes, if◌then◌else◌, ◌⊎◌, zero, suc, map, option_map}
+use Rattle.std.specs.Prelude.{ℕ, List, [], ◌∷◌, ◌++◌, length, Bool, not, Option, Some, None, codes, if◌then◌else◌, ◌⊎◌, zero, suc, option_map}
 use Rattle.std.proofs.Common.{inl, inr}
-use Rattle.std.specs.List.{flat_map, list_all}
 use Rattle.frag_words.specs.Lines.{lines_words}
 use Rattle.frag_words.specs.Readings.{Reading, then_read, expected, behind, pair, mapped, either, restated, word_is, list_until}
 use Rattle.frag_words.specs.Words.{Word, words_in}

@@ -1,5 +1,5 @@
 -- The words that stand for numbers, widths and truths in a crate text.
-use Rattle.std.specs.Prelude.{ℕ, Bool, true, false, List, ◌++◌, codes, decimal as decimal_text}
+use Rattle.std.specs.Prelude.{ℕ, Bool, true, false, ◌++◌, codes, decimal as decimal_text}
 use Rattle.std.specs.Fmt.{digits}
 use Rattle.frag_words.specs.Words.{Word}
 use Rattle.frag_words.specs.Lines.{Piece, word}

@@ -1,8 +1,7 @@
 -- The productions of register modules as readings of words.
-use Rattle.std.specs.Prelude.{ℕ, List, [], ◌∷◌, ◌++◌, Bool, true, false, ◌&&◌, Option, Some, None, codes, ◌⊎◌}
+use Rattle.std.specs.Prelude.{ℕ, List, ◌∷◌, ◌++◌, Bool, ◌&&◌, Option, codes, ◌⊎◌}
 use Rattle.std.proofs.Common.{inl, inr}
-use Rattle.std.specs.List.{flat_map, list_all}
-use Rattle.frag_words.specs.Lines.{line_words, lines_words, piece_words}
+use Rattle.frag_words.specs.Lines.{line_words, lines_words}
 use Rattle.frag_words.specs.Readings.{Reading, behind, followed, pair, mapped, either, list_then, restated, word_is, list_until, option_then, flag_then}
 use Rattle.frag_words.specs.Words.{Word, words_in}
 use Rattle.pac_base.specs.declared.width.Width.{Width}
@@ -22,7 +21,7 @@ use Rattle.frag_tree.specs.declared.register.WriteForm.TheVariants as write
 use Rattle.frag_tree.specs.declared.register.Writer.{Writer}
 use Rattle.frag_tree.specs.Numerals.{width_word}
 use Rattle.frag_tree.specs.Productions.{identifier, hexadecimal_reading, decimal_reading, width_reading, truth_reading, kind_reading}
-use Rattle.frag_tree.specs.Registers.{writable_line, reset_line, marker_line, reader_line, writer_line, kind_word, truth_test_line, number_test_line, truth_write_line, number_write_line, values_lines, register_lines}
+use Rattle.frag_tree.specs.Registers.{writable_line, reset_line, reader_line, writer_line, kind_word, truth_test_line, number_test_line, truth_write_line, number_write_line, values_lines, register_lines}
 use Rattle.frag_tree.specs.Validity.{valid_constant, valid_writable, valid_reader, valid_writer, valid_truth, valid_number, valid_values, valid_register}
 
 -- ---- constants

@@ -2,7 +2,6 @@
 use Rattle.std.specs.Prelude.{◌≡◌, ℕ, true, false, Some, List, [], ◌∷◌, ◌++◌, codes, map, refl}
 use Rattle.std.specs.List.{flat_map}
 use Rattle.std.specs.Fmt.{digits}
-use Rattle.frag_tree.specs.declared.access.Access.{Access}
 use Rattle.frag_tree.specs.declared.access.Body.TheVariants as body
 use Rattle.frag_tree.specs.declared.block.Element.TheVariants as element
 use Rattle.frag_tree.specs.declared.block.FieldType.TheVariants as holds

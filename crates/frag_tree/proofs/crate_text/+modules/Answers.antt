@@ -1,14 +1,13 @@
-use Rattle.std.proofs.Common.{map, drop, ◌++◌, subst, ◌+◌, ◌<◌, ◌∙◌, ap, sym, length, List, ℕ, ◌≡◌, slice_index_or}
-use Rattle.std.proofs.lemmas.List.{append-nil}
+use Rattle.std.proofs.Common.{◌++◌, subst, ◌∙◌, ap, sym, List, ℕ}
 use Rattle.std.proofs.lemmas.Result.{err_from_is_err_and}
 use Rattle.frag_words.specs.Lines.{lines_text}
 use Rattle.pac_io.specs.WrittenUpTo.{WrittenUpTo}
 use Rattle.pac_io.specs.Writing.{AppendsPrefix, WritesUpTo}
 use Rattle.pac_io.proofs.WrittenUpTo.{none_written}
-use Rattle.frag_tree.specs.Blocks.{module_lines, modules_lines}
-use Rattle.frag_tree.specs.Trees.{ModuleTree, block_tree, module_tree, one_block, one_register}
+use Rattle.frag_tree.specs.Blocks.{module_lines}
+use Rattle.frag_tree.specs.Trees.{ModuleTree, block_tree, module_tree}
 use Rattle.frag_tree.proofs.Trees.{module_tree-block, module_tree-register}
-use Rattle.frag_tree.proofs.Modules.{PrintedUpTo, inner-is, block_broke_off, block_went_on, block_printed, held_back, modules_done, module_broke_off, module_went_on, module_at, modules_from}
+use Rattle.frag_tree.proofs.Modules.{inner-is, block_broke_off, block_went_on, block_printed, held_back, modules_done, module_broke_off, module_went_on}
 use Rattle.frag_tree.proofs.crate_text.+modules.Goals as goal
 
 pub print_block-returns-in_err-push_opening-clause-growth : goal.print_block-returns-in_err-push_opening-clause-growth

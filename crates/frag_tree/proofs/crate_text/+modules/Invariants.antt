@@ -1,4 +1,4 @@
-use Rattle.std.proofs.Common.{◌++◌, map, drop}
+use Rattle.std.proofs.Common.{◌++◌, drop}
 use Rattle.frag_tree.proofs.Modules.{PrintedUpTo, modules_from}
 use Rattle.frag_tree.proofs.crate_text.+modules.Given as goal
 

@@ -1,6 +1,6 @@
 use Rattle.std.proofs.Common.{◌∙◌}
 use Rattle.std.proofs.lemmas.Result.{err_from_is_err_and}
-use Rattle.frag_tree.proofs.Modules.{PrintedUpTo, top_broke_off, top_went_on}
+use Rattle.frag_tree.proofs.Modules.{top_broke_off, top_went_on}
 use Rattle.frag_tree.proofs.crate_text.print_blocks.Goals as goal
 
 pub returns-in_err-print_top-clause-growth : goal.returns-in_err-print_top-clause-growth

@@ -1,6 +1,4 @@
-use Rattle.std.proofs.Common.{◌++◌, ap, sym, subst, List, ℕ, ◌≡◌, append_assoc, ◌∙◌}
 use Rattle.std.proofs.lemmas.Result.{err_from_is_err_and}
-use Rattle.pac_io.specs.Writing.{WritesUpTo}
 use Rattle.pac_io.proofs.WrittenUpTo.{none_written}
 use Rattle.frag_tree.proofs.crate_text.print_top.Goals as goal
 

@@ -1,6 +1,6 @@
-use Rattle.std.proofs.Common.{◌∷◌, [], ◌++◌, ◌+◌, ap, sym, subst, List, ℕ, ◌≡◌, ◌∙◌}
+use Rattle.std.proofs.Common.{◌∷◌, ◌++◌, ◌+◌, ap, sym, subst, ℕ, ◌≡◌}
 use Rattle.std.proofs.lemmas.Result.{on_ok_weaker}
-use Rattle.frag_words.specs.Lines.{line, line_text, lines_text}
+use Rattle.frag_words.specs.Lines.{line, lines_text}
 use Rattle.frag_tree.specs.declared.block.Block.{out-Block}
 use Rattle.frag_tree.specs.Blocks.{module_opening, prelude_line, struct_lines, accessor_lines, opening_lines}
 use Rattle.frag_tree.specs.Trees.{BlockHead, BlockTree, block_tree}

@@ -1,4 +1,4 @@
-use Rattle.std.proofs.Common.{◌∷◌, [], ◌++◌, map}
+use Rattle.std.proofs.Common.{◌∷◌, [], map}
 use Rattle.std.specs.Prelude.{codes}
 use Rattle.std.proofs.lemmas.Result.{on_ok_weaker}
 use Rattle.frag_words.specs.Lines.{text, braced, empty_line}

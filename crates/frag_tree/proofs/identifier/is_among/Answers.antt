@@ -1,5 +1,5 @@
 use Rattle.std.proofs.Common.{ap, ◌∙◌, rules, ◌≡◌}
-use Rattle.std.specs.Prelude.{is_some, Option, ℕ}
+use Rattle.std.specs.Prelude.{is_some}
 use Rattle.std.specs.Map.{lookup}
 use Rattle.std.specs.Str.{bytes_eq}
 use Rattle.case_table.specs.Entries.{entries_of}

@@ -1,7 +1,5 @@
-use Rattle.std.proofs.Common.{ap, ◌∙◌, sym, ◌++◌}
 use Rattle.std.specs.Prelude.{codes}
-use Rattle.frag_words.specs.Lines.{fixed, lines_text}
-use Rattle.frag_tree.specs.Registers.{readable_lines}
+use Rattle.frag_words.specs.Lines.{fixed}
 use Rattle.frag_tree.proofs.Printed.{put_line}
 use Rattle.frag_tree.proofs.register_text.push_readable.Goals as goal
 

@@ -1,7 +1,7 @@
-use Rattle.std.proofs.Common.{◌∷◌, [], map, ◌+◌, ap, ◌∙◌, ◌++◌}
+use Rattle.std.proofs.Common.{◌∷◌, [], map, ◌+◌}
 use Rattle.std.specs.Prelude.{codes}
 use Rattle.std.proofs.lemmas.Result.{on_ok_weaker}
-use Rattle.frag_words.specs.Lines.{text, lines_text}
+use Rattle.frag_words.specs.Lines.{text}
 use Rattle.frag_tree.specs.Registers.{writer_line}
 use Rattle.frag_tree.proofs.Printed.{put_braced}
 use Rattle.frag_tree.proofs.register_text.push_writers.Goals as goal
