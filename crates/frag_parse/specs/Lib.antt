@@ -1,0 +1,8 @@
+pub mod FixedWords
+pub mod Tokens
+pub mod Groups
+pub mod Statements
+pub mod ScriptLines
+pub mod Fronts
+pub mod Reading
+pub mod Telling
