@@ -188,11 +188,25 @@ fn push_svd(page: &mut Page, fault: &SvdFault) -> Result<(), NoMemory>
     match fault {
         SvdFault::Syntax { at } => push_number(page, b"description: syntax at byte ", *at),
         SvdFault::TooDeep { span } => push_said_at(page, b"description: nesting passes 64", *span),
-        SvdFault::UnknownElement { span } => push_said_at(page, b"description: unknown element", *span),
-        SvdFault::DoubleElement { span } => push_said_at(page, b"description: second element", *span),
+        SvdFault::UnknownElement { span } => push_said_at(
+            page,
+            b"description: unknown element",
+            *span,
+        ),
+        SvdFault::DoubleElement { span } => push_said_at(
+            page,
+            b"description: second element",
+            *span,
+        ),
         SvdFault::DoubleName { span } => push_said_at(page, b"description: name used twice", *span),
         SvdFault::BadValue { span, kind } => push_bad_at(page, *kind, *span),
-        SvdFault::MissingElement { span, key } => push_name_at(page, b"description: missing ", key.as_str().as_bytes(), b" in the element", *span),
+        SvdFault::MissingElement { span, key } => push_name_at(
+            page,
+            b"description: missing ",
+            key.as_str().as_bytes(),
+            b" in the element",
+            *span,
+        ),
         SvdFault::TooMany { kind, count } => push_many(page, *kind, *count),
         SvdFault::Memory => page.push(b"out of memory"),
     }
@@ -214,12 +228,28 @@ fn push_check(page: &mut Page, fault: &CheckFault) -> Result<(), NoMemory>
 {
     match fault {
         CheckFault::BadWidth { path } => push_at(page, path.as_slice(), b": size is not 1 to 64"),
-        CheckFault::AddressRange { path } => push_at(page, path.as_slice(), b": address passes 64 bits"),
+        CheckFault::AddressRange { path } => push_at(
+            page,
+            path.as_slice(),
+            b": address passes 64 bits",
+        ),
         CheckFault::Misaligned { path } => {
-            push_at(page, path.as_slice(), b": address is not a multiple of the width")
+            push_at(
+                page,
+                path.as_slice(),
+                b": address is not a multiple of the width",
+            )
         }
-        CheckFault::FieldRange { path } => push_at(page, path.as_slice(), b": field passes the register"),
-        CheckFault::NameClash { first, second } => push_clash(page, first.as_slice(), second.as_slice()),
+        CheckFault::FieldRange { path } => push_at(
+            page,
+            path.as_slice(),
+            b": field passes the register",
+        ),
+        CheckFault::NameClash { first, second } => push_clash(
+            page,
+            first.as_slice(),
+            second.as_slice(),
+        ),
         CheckFault::Memory => page.push(b"out of memory"),
     }
 }
