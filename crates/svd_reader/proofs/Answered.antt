@@ -1,5 +1,5 @@
 -- That the answer to a text is the one that is given.
-use Rattle.std.proofs.Common.{◌≡◌, ℕ, ◌≤◌, Bool, true, false, nat_le, List, [], ◌∷◌, Option, Some, None, Result, Ok, Err, IfOk, IfErr, refl, sym, ap, ◌∙◌, subst, if◌then◌else◌}
+use Rattle.std.proofs.Common.{◌≡◌, ℕ, Bool, true, false, nat_le, List, Option, Some, None, Result, Ok, Err, IfOk, IfErr, refl, sym, ap, ◌∙◌, subst, if◌then◌else◌}
 use Rattle.svd_schema.specs.declared.container.Container.TheVariants.{Device}
 use Rattle.svd_text.specs.declared.element.Element.{Element}
 use Rattle.svd_text.specs.declared.fault.TextFault.{TextFault}
@@ -14,7 +14,7 @@ use Rattle.svd_model.specs.Steps.{Step}
 use Rattle.svd_rows.specs.Elements.{count}
 use Rattle.svd_rows.specs.Rows.{Row, rows}
 use Rattle.svd_keys.specs.Children.{Tree}
-use Rattle.svd_keys.specs.Earliest.{least, earlier}
+use Rattle.svd_keys.specs.Earliest.{least}
 use Rattle.svd_keys.specs.declared.fault.PlacedFault.{PlacedFault}
 use Rattle.svd_reader.specs.declared.fault.SvdFault.{SvdFault}
 use Rattle.svd_reader.specs.declared.fault.SvdFault.TheVariants.{Syntax, TooDeep, UnknownElement, DoubleElement, DoubleName, BadValue, MissingElement, TooMany, Memory}

@@ -1,7 +1,6 @@
 -- Siblings that are told apart: what that says of a part of them, and of a map of them.
-use Rattle.std.proofs.Common.{◌≡◌, ℕ, Bool, true, false, cond, ◌&&◌, nat_eq, List, [], ◌∷◌, ◌++◌, map, flat_map, Option, Some, None, Result, Ok, Err, IfOk, refl, sym, ap, ap₂, ◌∙◌, subst, ◌<◌, ◌≤◌, ◌+◌, length, slice_index_or, append_assoc}
+use Rattle.std.proofs.Common.{◌≡◌, ℕ, true, false, cond, List, [], ◌∷◌, ◌++◌, map, flat_map, Option, Some, None, Result, Ok, Err, IfOk, refl, sym, ap, ◌∙◌, subst, ◌<◌, ◌+◌, length, slice_index_or}
 use Rattle.std.specs.List.{AllByRecursion}
-use Rattle.std.specs.Str.{bytes_eq}
 use Rattle.indexmap.specs.IndexMap.{insert_entry}
 use Rattle.pac_base.specs.declared.memory.NoMemory.{NoMemory}
 use Rattle.svd_schema.specs.declared.container.Container.TheVariants as container
@@ -11,9 +10,8 @@ use Rattle.svd_text.specs.Views.{element_of}
 use Rattle.svd_keys.specs.declared.keys.Keys.{Keys}
 use Rattle.svd_keys.specs.Children.{Tree, has_name, members}
 use Rattle.svd_keys.specs.KeysOf.{keys_of}
-use Rattle.svd_keys.proofs.Loops.{left, left-next}
+use Rattle.svd_keys.proofs.Loops.{left}
 use Rattle.svd_model.specs.declared.sibling.Sibling.{Sibling}
-use Rattle.svd_model.specs.Keys.{Key}
 use Rattle.svd_model.specs.declared.device.Item.{Item}
 use Rattle.svd_model.specs.Steps.{Step, Kind, register, cluster, peripheral, same_key}
 use Rattle.svd_model.specs.Trees.{step_of, item_under}

@@ -2,7 +2,7 @@
 use Rattle.std.proofs.Common.{◌≡◌, ℕ, Bool, true, false, ◌||◌, ◌+◌, ◌<◌, ◌≤◌, List, [], ◌∷◌, ◌++◌, length, map, take, Option, Some, None, slice_index_or, refl, sym, ap, ap₂, ◌∙◌}
 use Rattle.std.specs.List.{list_any}
 use Rattle.std.specs.Str.{bytes_eq}
-use Rattle.std.proofs.lemmas.List.{map-append, map_more}
+use Rattle.std.proofs.lemmas.List.{map_more}
 use Rattle.std.proofs.lemmas.List.Folds.{list_any-append}
 use Rattle.svd_schema.specs.declared.container.Container.{Container}
 use Rattle.svd_text.specs.declared.element.Element.{Element}
@@ -12,7 +12,7 @@ use Rattle.svd_keys.specs.Earliest.{earlier, least}
 use Rattle.svd_keys.specs.WrittenNames.{written_span}
 use Rattle.svd_keys.specs.declared.fault.PlacedFault.{PlacedFault}
 use Rattle.svd_keys.proofs.Loops.{left, left-next, left-none, gathered, nothing_left}
-use Rattle.svd_reader.specs.DoubleNames.{same_name, name_in, where_again, double_name, double_names, double_names_behind}
+use Rattle.svd_reader.specs.DoubleNames.{same_name, name_in, where_again, double_name, double_names_behind}
 use Rattle.svd_reader.specs.Walk.{seen_before}
 
 -- the elements before a place

@@ -1,5 +1,5 @@
 -- Faults that are gathered part by part.
-use Rattle.std.proofs.Common.{◌≡◌, ℕ, ◌+◌, ◌<◌, List, [], ◌++◌, length, map, flat_map, Option, Some, None, Result, Ok, Err, IfOk, slice_index_or, refl, sym, ap, ap₂, ◌∙◌}
+use Rattle.std.proofs.Common.{◌≡◌, ℕ, ◌+◌, ◌<◌, List, ◌++◌, length, map, flat_map, Option, Some, Result, Ok, Err, IfOk, slice_index_or, sym, ap, ap₂, ◌∙◌}
 use Rattle.pac_base.specs.declared.memory.NoMemory.{NoMemory}
 use Rattle.svd_schema.specs.declared.container.Container.{Container}
 use Rattle.svd_text.specs.declared.element.Element.{Element, out-Element}

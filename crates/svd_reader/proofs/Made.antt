@@ -1,12 +1,12 @@
 -- What is made of the keys of an element is what the element describes.
-use Rattle.std.proofs.Common.{◌≡◌, ℕ, Bool, true, false, List, [], ◌∷◌, ◌++◌, map, flat_map, Option, Some, None, unwrap_or, refl, sym, ap, ap₂, ◌∙◌}
+use Rattle.std.proofs.Common.{◌≡◌, ℕ, true, false, List, [], ◌∷◌, map, flat_map, Option, Some, None, unwrap_or, refl, sym, ap, ap₂, ◌∙◌}
 use Rattle.svd_schema.specs.declared.container.Container.TheVariants as container
 use Rattle.svd_schema.specs.Names.{container_name}
 use Rattle.svd_text.specs.declared.element.Element.{Element, out-Element}
 use Rattle.svd_text.specs.Views.{element_of}
 use Rattle.svd_model.specs.declared.device.Child.{Child}
 use Rattle.svd_model.specs.declared.device.Child.TheVariants.{Cluster as ClusterIs, Register as RegisterIs}
-use Rattle.svd_model.specs.declared.device.Child.TheOpen.{Cluster-F, Item-F}
+use Rattle.svd_model.specs.declared.device.Child.TheOpen.{Cluster-F}
 use Rattle.svd_model.specs.declared.device.Cluster.{Cluster, roll-Cluster}
 use Rattle.svd_model.specs.declared.device.Device.{Device}
 use Rattle.svd_model.specs.declared.device.Item.{Item, roll-Item}
@@ -18,9 +18,9 @@ use Rattle.svd_model.specs.declared.device.Register.{Register}
 use Rattle.svd_model.specs.declared.sibling.Sibling.{Sibling}
 use Rattle.svd_model.specs.Keys.{Key, device_name}
 use Rattle.svd_model.specs.Steps.{Step, Kind, field, register, cluster, peripheral, set, value}
-use Rattle.svd_model.specs.Trees.{value_places, set_places, field_places, register_places, cluster_places, peripheral_places, device_places, value_tree, set_tree, field_tree, register_tree, peripheral_tree, device_tree, field_under, peripheral_under, item_under, child_tree, cluster_tree, numbered, step_of}
+use Rattle.svd_model.specs.Trees.{value_places, set_places, field_places, register_places, cluster_places, peripheral_places, device_places, value_tree, set_tree, field_tree, register_tree, peripheral_tree, device_tree, field_under, peripheral_under, item_under, numbered, step_of}
 use Rattle.svd_model.proofs.Trees.{item_under-roll, child_tree-cluster, child_tree-register, cluster_tree-roll}
-use Rattle.svd_rows.specs.Forest.{Forest, Tree as TreeOf, leaf, siblings}
+use Rattle.svd_rows.specs.Forest.{Forest, leaf, siblings}
 use Rattle.svd_rows.specs.Ranks.{stated}
 use Rattle.svd_keys.specs.declared.keys.Keys.{Keys}
 use Rattle.svd_keys.specs.Children.{Tree, has_name, members}

@@ -1,12 +1,12 @@
 -- What runs over the elements side by side gathers from each of them.
-use Rattle.std.proofs.Common.{◌≡◌, ℕ, List, [], ◌∷◌, ◌++◌, map, flat_map, Option, Some, None, refl, sym, ap, ap₂, ◌∙◌}
+use Rattle.std.proofs.Common.{◌≡◌, ℕ, List, [], ◌++◌, map, flat_map, Some, None, refl, sym, ap, ◌∙◌}
 use Rattle.svd_schema.specs.declared.container.Container.{Container}
 use Rattle.svd_text.specs.declared.element.Element.{Element, out-Element}
 use Rattle.svd_text.specs.Tree.{Elements, none, element}
 use Rattle.svd_text.specs.Views.{element_of}
 use Rattle.svd_keys.specs.Children.{Tree, members, child}
 use Rattle.svd_keys.proofs.Seen.{members-of}
-use Rattle.svd_reader.specs.DescribedTree.{child_at, children_in, inside}
+use Rattle.svd_reader.specs.DescribedTree.{children_in, inside}
 use Rattle.svd_reader.specs.Faults.{faults_in}
 use Rattle.svd_reader.specs.Walk.{held_faults, child_of}
 

@@ -1,8 +1,7 @@
 -- The answer to a device element, by its first fault and by how many elements it has.
-use Rattle.std.proofs.Common.{◌≡◌, ℕ, ◌+◌, ◌-◌, ◌^◌, ◌<◌, ◌≤◌, min, Bool, true, false, nat_le, List, [], ◌∷◌, Option, Some, None, refl, sym, ap, ◌∙◌, subst, if◌then◌else◌, arith}
+use Rattle.std.proofs.Common.{◌≡◌, ℕ, ◌<◌, ◌≤◌, Bool, true, false, nat_le, List, [], ◌∷◌, Option, Some, None, refl, sym, ap, ◌∙◌, subst, if◌then◌else◌, arith}
 use Rattle.std.proofs.lemmas.Bool.Decides.{nat_tests}
 use Rattle.svd_schema.specs.declared.container.Container.TheVariants.{Device}
-use Rattle.svd_model.specs.declared.counted.Counted.{Counted}
 use Rattle.svd_model.specs.declared.counted.Counted.TheVariants.{Elements}
 use Rattle.svd_model.specs.declared.device.Device.{Device as DeviceOf}
 use Rattle.svd_model.specs.Counting.{told_count, elements_in}

@@ -1,17 +1,13 @@
 -- What is said of an element by what it is in its container.
-use Rattle.std.proofs.Common.{◌≡◌, ℕ, List, [], ◌∷◌, ◌++◌, Option, Some, None, refl, sym, ap, ◌∙◌}
+use Rattle.std.proofs.Common.{◌≡◌, [], ◌++◌, Option, Some, None, refl, sym, ap}
 use Rattle.svd_schema.specs.declared.container.Container.{Container}
 use Rattle.svd_schema.specs.declared.roles.Role.{Role}
 use Rattle.svd_schema.specs.declared.roles.Role.TheVariants.{Holds, States, PassedOver}
 use Rattle.svd_schema.specs.Table.{role_of}
-use Rattle.svd_text.specs.declared.element.Element.{Element, out-Element}
-use Rattle.svd_text.specs.Views.{element_of}
 use Rattle.svd_keys.specs.Children.{Tree, members}
 use Rattle.svd_keys.specs.Earliest.{least}
 use Rattle.svd_keys.specs.OwnFaults.{own_faults}
 use Rattle.svd_keys.specs.WrittenNames.{sibling_name}
-use Rattle.svd_keys.specs.declared.fault.PlacedFault.{PlacedFault}
-use Rattle.svd_keys.proofs.Seen.{name-of}
 use Rattle.svd_reader.specs.DoubleNames.{double_names, name_by, name_in}
 use Rattle.svd_reader.specs.Faults.{faults_by, faults_in, faults_of}
 use Rattle.svd_reader.specs.Walk.{held_as, held_faults}

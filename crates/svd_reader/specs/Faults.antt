@@ -1,6 +1,6 @@
 -- Every fault of a description (CMSIS-SVD 1.3; the faults are this project's own): those that concern one element by itself, equal names of
 -- siblings, and those of the containers in it, second ones too. The answer is the fault of least place (`least`).
-use Rattle.std.specs.Prelude.{List, [], ◌++◌, Option, Some, None}
+use Rattle.std.specs.Prelude.{List, [], ◌++◌, Option, Some}
 use Rattle.svd_schema.specs.declared.container.Container.{Container}
 use Rattle.svd_schema.specs.declared.roles.Role.{Role}
 use Rattle.svd_schema.specs.declared.roles.Role.TheVariants.{Holds}

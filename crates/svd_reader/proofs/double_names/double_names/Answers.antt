@@ -1,12 +1,12 @@
-use Rattle.std.proofs.Common.{◌≡◌, ℕ, List, Bor, map, refl, ap, sym, ◌∙◌}
+use Rattle.std.proofs.Common.{ℕ, List, Bor, map, refl, ap}
 use Rattle.std.specs.List.{list_any}
 use Rattle.std.specs.Str.{bytes_eq}
-use Rattle.svd_keys.specs.Earliest.{earlier, least}
+use Rattle.svd_keys.specs.Earliest.{least}
 use Rattle.svd_keys.proofs.Loops.{begun}
 use Rattle.svd_text.specs.Views.{element_of}
-use Rattle.svd_reader.specs.DoubleNames.{double_names, double_names_behind}
+use Rattle.svd_reader.specs.DoubleNames.{double_names}
 use Rattle.svd_reader.specs.Walk.{names_of, lent}
-use Rattle.svd_reader.proofs.Doubles.{AreNames, names_go_on, faults_go_on, faults_end}
+use Rattle.svd_reader.proofs.Doubles.{names_go_on, faults_go_on, faults_end}
 use Rattle.svd_reader.proofs.double_names.double_names.Goals as goal
 
 pub loop-child-init : goal.loop-child-init

@@ -1,4 +1,4 @@
-use Rattle.std.proofs.Common.{◌≡◌, Some, None, sym, ap, ◌∙◌}
+use Rattle.std.proofs.Common.{sym, ◌∙◌}
 use Rattle.svd_text.specs.Views.{element_of}
 use Rattle.svd_reader.proofs.Roles.{name_in-some, name_in-none}
 use Rattle.svd_reader.proofs.double_names.name_in.Goals as goal

@@ -1,8 +1,7 @@
-use Rattle.std.proofs.Common.{◌≡◌, Some, None, sym, ap, ◌∙◌}
+use Rattle.std.proofs.Common.{sym, ap, ◌∙◌}
 use Rattle.svd_schema.specs.Table.{role_of}
 use Rattle.svd_keys.proofs.Seen.{name-of}
 use Rattle.svd_reader.specs.Walk.{held_as}
-use Rattle.svd_text.specs.Views.{element_of}
 use Rattle.svd_reader.proofs.element.held.Goals as goal
 
 pub returns-in-Some : goal.returns-in-Some

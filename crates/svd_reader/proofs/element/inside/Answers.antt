@@ -1,9 +1,9 @@
-use Rattle.std.proofs.Common.{◌≡◌, Some, None, ap, sym, ◌∙◌, ◌+◌, find}
+use Rattle.std.proofs.Common.{ap, sym, ◌∙◌, ◌+◌, find}
 use Rattle.svd_schema.specs.Names.{container_name}
-use Rattle.svd_keys.specs.Children.{Tree, child, has_name}
+use Rattle.svd_keys.specs.Children.{child, has_name}
 use Rattle.svd_keys.proofs.Loops.{left, left-all, left-next, left-none, found_here, found_later}
 use Rattle.svd_text.specs.Views.{element_of}
-use Rattle.svd_reader.proofs.Members.{all-of, inside-some, inside-none}
+use Rattle.svd_reader.proofs.Members.{inside-some, inside-none}
 use Rattle.svd_reader.proofs.element.inside.Goals as goal
 
 pub loop-child-init : goal.loop-child-init

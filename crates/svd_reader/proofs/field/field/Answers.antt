@@ -1,4 +1,4 @@
-use Rattle.std.proofs.Common.{◌≡◌, refl, sym, ap, ◌∙◌}
+use Rattle.std.proofs.Common.{refl, sym, ap, ◌∙◌}
 use Rattle.svd_text.specs.Views.{element_of}
 use Rattle.svd_keys.specs.WrittenNames.{is_reserved_name}
 use Rattle.svd_reader.proofs.Made.{other-field, unnamed-field, reserved-field, named-field}

@@ -1,4 +1,4 @@
-use Rattle.std.proofs.Common.{◌≡◌, ◌++◌, map, flat_map, ap, ◌∙◌}
+use Rattle.std.proofs.Common.{◌++◌, map, flat_map, ap}
 use Rattle.svd_text.specs.Views.{element_of}
 use Rattle.svd_model.specs.Steps.{field}
 use Rattle.svd_model.specs.Trees.{field_under, field_tree}

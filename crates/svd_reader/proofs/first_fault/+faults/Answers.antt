@@ -1,7 +1,6 @@
-use Rattle.std.proofs.Common.{◌≡◌, Some, None, refl, sym, ap, ◌∙◌, ◌+◌, flat_map, map, IfOk}
-use Rattle.std.proofs.lemmas.List.{map-append}
-use Rattle.svd_keys.specs.Earliest.{earlier, least}
-use Rattle.svd_keys.proofs.Loops.{left, left-next, left-none, gathered, nothing_left, begun}
+use Rattle.std.proofs.Common.{refl, sym, ap, ◌∙◌, flat_map, map}
+use Rattle.svd_keys.specs.Earliest.{least}
+use Rattle.svd_keys.proofs.Loops.{left-none, nothing_left, begun}
 use Rattle.svd_text.specs.Views.{element_of}
 use Rattle.svd_reader.specs.Walk.{held_faults}
 use Rattle.svd_reader.proofs.Gathered.{all_faults, by_role, one_more}

@@ -1,4 +1,4 @@
-use Rattle.std.proofs.Common.{◌≡◌, map, refl, sym, ap, ◌∙◌}
+use Rattle.std.proofs.Common.{map, refl}
 use Rattle.svd_text.specs.Views.{element_of}
 use Rattle.svd_reader.proofs.Made.{named-device}
 use Rattle.svd_reader.proofs.Apart.{device-apart}

@@ -1,4 +1,4 @@
-use Rattle.std.proofs.Common.{◌≡◌, Some, map, refl, sym, ap, ◌∙◌}
+use Rattle.std.proofs.Common.{Some, map, refl, sym, ap, ◌∙◌}
 use Rattle.svd_text.specs.Views.{element_of}
 use Rattle.svd_reader.proofs.Made.{other-peripheral, unplaced-peripheral, unnamed-peripheral, named-peripheral}
 use Rattle.svd_reader.proofs.Apart.{peripheral-apart}

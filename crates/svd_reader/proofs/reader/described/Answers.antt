@@ -1,11 +1,5 @@
-use Rattle.std.proofs.Common.{◌≡◌, ◌≤◌, ◌<◌, refl, sym, ap, ◌∙◌, arith, subst, ℕ, ◌+◌, ◌-◌, ◌^◌, min}
+use Rattle.std.proofs.Common.{sym}
 use Rattle.svd_text.specs.Views.{element_of}
-use Rattle.svd_model.specs.Counting.{told_count, elements_in}
-use Rattle.svd_model.specs.Trees.{device_tree}
-use Rattle.svd_rows.specs.Rows.{rows}
-use Rattle.svd_reader.specs.DescribedTree.{described_tree}
-use Rattle.svd_reader.specs.Refusals.{Tells, OrMemory}
-use Rattle.svd_reader.specs.Described.{answer_in}
 use Rattle.svd_reader.proofs.Outcomes.{faulty, tells-answer, has_too_many, has_rows, facts-told}
 use Rattle.svd_reader.proofs.reader.described.Goals as goal
 

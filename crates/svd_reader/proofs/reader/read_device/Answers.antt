@@ -1,4 +1,4 @@
-use Rattle.std.proofs.Common.{◌≡◌, Err, refl}
+use Rattle.std.proofs.Common.{Err, refl}
 use Rattle.svd_text.specs.Views.{element_of}
 use Rattle.svd_reader.specs.Described.{answer_in}
 use Rattle.svd_reader.proofs.Answered.{read-answers, fault-clauses, ok-answer, refused-answer, found-answer}

@@ -1,4 +1,4 @@
-use Rattle.std.proofs.Common.{◌≡◌, ◌++◌, Some, map, flat_map, refl, sym, ap, ◌∙◌}
+use Rattle.std.proofs.Common.{Some, map, flat_map, refl, sym, ap, ◌∙◌}
 use Rattle.svd_text.specs.Views.{element_of}
 use Rattle.svd_model.specs.Trees.{item_under}
 use Rattle.svd_reader.specs.Walk.{child_of}

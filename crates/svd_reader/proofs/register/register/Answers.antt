@@ -1,4 +1,4 @@
-use Rattle.std.proofs.Common.{◌≡◌, Some, map, refl, sym, ap, ◌∙◌}
+use Rattle.std.proofs.Common.{Some, map, refl, sym, ap, ◌∙◌}
 use Rattle.svd_text.specs.Views.{element_of}
 use Rattle.svd_reader.proofs.Made.{unplaced-register, unnamed-register, named-register}
 use Rattle.svd_reader.proofs.Apart.{register-apart}

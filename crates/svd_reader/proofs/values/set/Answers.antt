@@ -1,4 +1,4 @@
-use Rattle.std.proofs.Common.{◌≡◌, refl, sym, ◌∙◌}
+use Rattle.std.proofs.Common.{refl, sym, ◌∙◌}
 use Rattle.svd_text.specs.Views.{element_of}
 use Rattle.svd_reader.proofs.Made.{other-set, named-set}
 use Rattle.svd_reader.proofs.values.set.Goals as goal

@@ -1,4 +1,4 @@
-use Rattle.std.proofs.Common.{◌≡◌, map, flat_map}
+use Rattle.std.proofs.Common.{map, flat_map}
 use Rattle.svd_text.specs.Views.{element_of}
 use Rattle.svd_model.specs.Trees.{set_tree}
 use Rattle.svd_reader.specs.DescribedTree.{set_at}

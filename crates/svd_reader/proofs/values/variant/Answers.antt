@@ -1,4 +1,4 @@
-use Rattle.std.proofs.Common.{◌≡◌, refl, sym, ◌∙◌}
+use Rattle.std.proofs.Common.{refl, sym, ◌∙◌}
 use Rattle.svd_text.specs.Views.{element_of}
 use Rattle.svd_reader.proofs.Made.{other-value, unnamed-value, named-value}
 use Rattle.svd_reader.proofs.values.variant.Goals as goal
