@@ -32,10 +32,14 @@ index_text (Some index) = codes "[" ++ (decimal index ++ codes "]")
 unfoldable pub step_text : Step → List ℕ
 step_text step = step.name ++ index_text step.index
 
+-- a step behind another
+abbrev pub step_behind : Step → List ℕ
+step_behind step = codes "." ++ step_text step
+
 -- the steps of a path, joined by points
 unfoldable pub path_text : List Step → List ℕ
 path_text [] = []
-path_text (first ∷ steps) = step_text first ++ flat_map (λ step. codes "." ++ step_text step) steps
+path_text (first ∷ steps) = step_text first ++ flat_map step_behind steps
 
 -- ---- descriptions
 

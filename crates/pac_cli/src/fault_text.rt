@@ -1,6 +1,6 @@
 ghost use Rattle.std.specs.Prelude.{◌≡◌, ◌++◌, OnOk, codes, decimal};
 ghost use Rattle.std.specs.List.{flat_map};
-ghost use Rattle.pac_cli.specs.FaultTexts.{at_path, bad_text, check_text, counted_text, index_text, limit_text, many_text, path_text, span_text, step_text, svd_text, text_of, words_text};
+ghost use Rattle.pac_cli.specs.FaultTexts.{at_path, bad_text, check_text, counted_text, index_text, limit_text, many_text, path_text, span_text, step_behind, step_text, svd_text, text_of, words_text};
 
 use crate::fault::{LimitFault, PacFault, WordsFault};
 use overlap_check::CheckFault;
@@ -66,12 +66,18 @@ fn push_step(page: &mut Page, step: &Step) -> Result<(), NoMemory>
     push_index(page, step.index)
 }
 
+fn push_step_behind(page: &mut Page, step: &Step) -> Result<(), NoMemory>
+    ensures { OnOk result (page.new ≡ page.old ++ step_behind step.now) }
+{
+    page.push(b".")?;
+    push_step(page, step)
+}
+
 fn push_steps(page: &mut Page, steps: &[Step]) -> Result<(), NoMemory>
-    ensures { OnOk result (page.new ≡ page.old ++ flat_map (λ step. codes "." ++ step_text step) steps.now) }
+    ensures { OnOk result (page.new ≡ page.old ++ flat_map step_behind steps.now) }
 {
     for step in steps {
-        page.push(b".")?;
-        push_step(page, step)?;
+        push_step_behind(page, step)?;
     }
     Ok(())
 }
