@@ -204,6 +204,58 @@ fn description_faults(rt: HostRuntime) -> Result<(), Fail> {
     Ok(())
 }
 
+// An element that isn't in its row, once in each container of the schema's table.
+const UNKNOWN_ELEMENTS: [(&str, &str); 10] = [
+    (
+        "<device><name>D</name><colour/><peripherals></peripherals></device>",
+        "description: unknown element at bytes 23 to 29",
+    ),
+    (
+        "<device><name>D</name><peripherals><colour/></peripherals></device>",
+        "description: unknown element at bytes 36 to 42",
+    ),
+    (
+        "<device><name>D</name><peripherals><peripheral><name>P</name><baseAddress>0</baseAddress><colour/></peripheral></peripherals></device>",
+        "description: unknown element at bytes 90 to 96",
+    ),
+    (
+        "<device><name>D</name><peripherals><peripheral><name>P</name><baseAddress>0</baseAddress><registers><colour/></registers></peripheral></peripherals></device>",
+        "description: unknown element at bytes 101 to 107",
+    ),
+    (
+        "<device><name>D</name><peripherals><peripheral><name>P</name><baseAddress>0</baseAddress><registers><cluster><name>C</name><addressOffset>0</addressOffset><colour/></cluster></registers></peripheral></peripherals></device>",
+        "description: unknown element at bytes 156 to 162",
+    ),
+    (
+        "<device><name>D</name><peripherals><peripheral><name>P</name><baseAddress>0</baseAddress><registers><register><name>R</name><addressOffset>0</addressOffset><colour/></register></registers></peripheral></peripherals></device>",
+        "description: unknown element at bytes 157 to 163",
+    ),
+    (
+        "<device><name>D</name><peripherals><peripheral><name>P</name><baseAddress>0</baseAddress><registers><register><name>R</name><addressOffset>0</addressOffset><fields><colour/></fields></register></registers></peripheral></peripherals></device>",
+        "description: unknown element at bytes 165 to 171",
+    ),
+    (
+        "<device><name>D</name><peripherals><peripheral><name>P</name><baseAddress>0</baseAddress><registers><register><name>R</name><addressOffset>0</addressOffset><fields><field><name>F</name><bitOffset>0</bitOffset><colour/></field></fields></register></registers></peripheral></peripherals></device>",
+        "description: unknown element at bytes 210 to 216",
+    ),
+    (
+        "<device><name>D</name><peripherals><peripheral><name>P</name><baseAddress>0</baseAddress><registers><register><name>R</name><addressOffset>0</addressOffset><fields><field><name>F</name><bitOffset>0</bitOffset><enumeratedValues><colour/></enumeratedValues></field></fields></register></registers></peripheral></peripherals></device>",
+        "description: unknown element at bytes 228 to 234",
+    ),
+    (
+        "<device><name>D</name><peripherals><peripheral><name>P</name><baseAddress>0</baseAddress><registers><register><name>R</name><addressOffset>0</addressOffset><fields><field><name>F</name><bitOffset>0</bitOffset><enumeratedValues><enumeratedValue><name>V</name><value>0</value><colour/></enumeratedValue></enumeratedValues></field></fields></register></registers></peripheral></peripherals></device>",
+        "description: unknown element at bytes 275 to 281",
+    ),
+];
+
+#[test]
+fn an_unknown_element_in_each_container(rt: HostRuntime) -> Result<(), Fail> {
+    for (description, fault) in UNKNOWN_ELEMENTS {
+        refuses_with(&rt, description, 6, fault)?;
+    }
+    Ok(())
+}
+
 fn refuses(rt: &(impl Abort + AllocGlobal), words: &[&str]) -> Result<(), Fail> {
     let wanted = Wanted {
         status: 2,
