@@ -18,12 +18,12 @@ module _ (P : Tree → Type 0) (node : Node) where
   pub in_any_list : (items : Items) → node ≡ ListOf items → P (list (items_of (items_under items))) → P (node_tree node)
   in_any_list items is fact = subst P (sym (ap node_tree is ∙ node_tree-list items)) fact
 
-  pub in_any_map : (entries : Entries) → node ≡ Map entries → P (mapping (entries_of (entries_under entries))) → P (node_tree node)
-  in_any_map entries is fact = subst P (sym (ap node_tree is ∙ node_tree-mapping entries)) fact
+  pub in_any_map : (named : Entries) → node ≡ Map named → P (mapping (entries_of (entries_under named))) → P (node_tree node)
+  in_any_map named is fact = subst P (sym (ap node_tree is ∙ node_tree-mapping named)) fact
 
-  pub in_map : (entries : Entries) (slice : List (ℕ × List ℕ × Node)) → node ≡ Map entries → slice ≡ (out-Entries entries).entries.items → P (mapping (entries_of (map entry_under slice))) → P (node_tree node)
-  in_map entries slice is same fact =
-      in_any_map entries is (subst (λ (es : List (ℕ × List ℕ × Tree)). P (mapping (entries_of es))) (ap (map entry_under) same ∙ sym (entries_under-is entries)) fact)
+  pub in_map : (named : Entries) (slice : List (ℕ × List ℕ × Node)) → node ≡ Map named → slice ≡ (out-Entries named).entries.items → P (mapping (entries_of (map entry_under slice))) → P (node_tree node)
+  in_map named slice is same fact =
+      in_any_map named is (subst (λ (es : List (ℕ × List ℕ × Tree)). P (mapping (entries_of es))) (ap (map entry_under) same ∙ sym (entries_under-is named)) fact)
 
   pub in_list : (items : Items) (slice : List (ℕ × Node)) → node ≡ ListOf items → slice ≡ (out-Items items).items.items → P (list (items_of (map item_under slice))) → P (node_tree node)
   in_list items slice is same fact =

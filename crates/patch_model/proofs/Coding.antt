@@ -11,13 +11,13 @@ use Rattle.patch_model.specs.declared.form.KeyKind.{KeyKind}
 use Rattle.patch_model.specs.declared.form.KeyKind.TheVariants.{Used, Children, PassedOver}
 use Rattle.patch_model.specs.Codes.{coded, device_code, kind_at, kind_code, word_at, word_code}
 
-hit : {V : Type 0} (code : V → ℕ) (test : List ℕ → Bool) (entry : List ℕ × V) (entries : List (List ℕ × V)) (same : Bool) → test entry.0 ≡ same → lookup test (coded code entries) ≡ option_map code (lookup test entries) → lookup test (coded code (entry ∷ entries)) ≡ option_map code (lookup test (entry ∷ entries))
-hit code test entry entries true is more = rw is refl
-hit code test entry entries false is more = rw is more
+hit : {V : Type 0} (code : V → ℕ) (test : List ℕ → Bool) (entry : List ℕ × V) (named : List (List ℕ × V)) (same : Bool) → test entry.0 ≡ same → lookup test (coded code named) ≡ option_map code (lookup test named) → lookup test (coded code (entry ∷ named)) ≡ option_map code (lookup test (entry ∷ named))
+hit code test entry named true is more = rw is refl
+hit code test entry named false is more = rw is more
 
-pub lookup-coded : {V : Type 0} (code : V → ℕ) (test : List ℕ → Bool) (entries : List (List ℕ × V)) → lookup test (coded code entries) ≡ option_map code (lookup test entries)
+pub lookup-coded : {V : Type 0} (code : V → ℕ) (test : List ℕ → Bool) (named : List (List ℕ × V)) → lookup test (coded code named) ≡ option_map code (lookup test named)
 lookup-coded code test [] = refl
-lookup-coded code test (entry ∷ entries) = hit code test entry entries (test entry.0) refl (lookup-coded code test entries)
+lookup-coded code test (entry ∷ named) = hit code test entry named (test entry.0) refl (lookup-coded code test named)
 
 pub no_code : {V : Type 0} (code : V → ℕ) (found : Option V) → None ≡ option_map code found → None ≡ found
 no_code code None is = refl
@@ -89,19 +89,19 @@ word_of-code Pattern listed = absurd listed
 
 abbrev AllListed : List (List ℕ × KeyWord) → Type 0
 AllListed [] = Unit {0}
-AllListed (entry ∷ entries) = Listed entry.1 × AllListed entries
+AllListed (entry ∷ named) = Listed entry.1 × AllListed named
 
 abbrev IfListed : Option KeyWord → Type 0
 IfListed None = Unit {0}
 IfListed (Some word) = Listed word
 
-listed_hit : (test : List ℕ → Bool) (entry : List ℕ × KeyWord) (entries : List (List ℕ × KeyWord)) (same : Bool) → test entry.0 ≡ same → Listed entry.1 → IfListed (lookup test entries) → IfListed (lookup test (entry ∷ entries))
-listed_hit test entry entries true is here more = rw is here
-listed_hit test entry entries false is here more = rw is more
+listed_hit : (test : List ℕ → Bool) (entry : List ℕ × KeyWord) (named : List (List ℕ × KeyWord)) (same : Bool) → test entry.0 ≡ same → Listed entry.1 → IfListed (lookup test named) → IfListed (lookup test (entry ∷ named))
+listed_hit test entry named true is here more = rw is here
+listed_hit test entry named false is here more = rw is more
 
-listed_found : (test : List ℕ → Bool) (entries : List (List ℕ × KeyWord)) → AllListed entries → IfListed (lookup test entries)
+listed_found : (test : List ℕ → Bool) (named : List (List ℕ × KeyWord)) → AllListed named → IfListed (lookup test named)
 listed_found test [] all = tt
-listed_found test (entry ∷ entries) all = listed_hit test entry entries (test entry.0) refl all.0 (listed_found test entries all.1)
+listed_found test (entry ∷ named) all = listed_hit test entry named (test entry.0) refl all.0 (listed_found test named all.1)
 
 all_listed : AllListed key_words
 unfolding key_words

@@ -7,17 +7,17 @@ use Rattle.yaml_block.specs.Nodes.{entry_under, item_under, node_tree}
 use Rattle.yaml_block.specs.Trees.{EntryTrees, ItemTrees, entries_of, items_of, entry, item, no_entries, no_items}
 
 abbrev pub from : {X : Type 0} → (EntryTrees → X) → List (ℕ × List ℕ × Node) → ℕ → X
-from ask entries i = ask (entries_of (map entry_under (drop i entries)))
+from ask named i = ask (entries_of (map entry_under (drop i named)))
 
 abbrev pub items_from : {X : Type 0} → (ItemTrees → X) → List (ℕ × Node) → ℕ → X
 items_from ask items i = ask (items_of (map item_under (drop i items)))
 
-module _ {X : Type 0} (ask : EntryTrees → X) (entries : List (ℕ × List ℕ × Node)) (i : ℕ) where
-  pub from-done : length entries ≤ i → from ask entries i ≡ ask no_entries
-  from-done past = ap (λ (rest : List (ℕ × List ℕ × Node)). ask (entries_of (map entry_under rest))) (drop_all i entries past)
+module _ {X : Type 0} (ask : EntryTrees → X) (named : List (ℕ × List ℕ × Node)) (i : ℕ) where
+  pub from-done : length named ≤ i → from ask named i ≡ ask no_entries
+  from-done past = ap (λ (rest : List (ℕ × List ℕ × Node)). ask (entries_of (map entry_under rest))) (drop_all i named past)
 
-  pub from-here : (one : ℕ × List ℕ × Node) → i < length entries → one ≡ get_or entries i one → from ask entries i ≡ ask (entry one.0 one.1 (node_tree one.2) (entries_of (map entry_under (drop (i + 1) entries))))
-  from-here one within is = ap (λ (rest : List (ℕ × List ℕ × Node)). ask (entries_of (map entry_under rest))) (from_place entries i one within is)
+  pub from-here : (one : ℕ × List ℕ × Node) → i < length named → one ≡ get_or named i one → from ask named i ≡ ask (entry one.0 one.1 (node_tree one.2) (entries_of (map entry_under (drop (i + 1) named))))
+  from-here one within is = ap (λ (rest : List (ℕ × List ℕ × Node)). ask (entries_of (map entry_under rest))) (from_place named i one within is)
 
 module _ {X : Type 0} (ask : ItemTrees → X) (items : List (ℕ × Node)) (i : ℕ) where
   pub items-done : length items ≤ i → items_from ask items i ≡ ask no_items

@@ -20,7 +20,7 @@ unknown kind line tree is = by_tree tree ∙ ap (λ k. key_demands k line tree) 
     by_tree nothing = refl
     by_tree (scalar text) = refl
     by_tree (list items) = refl
-    by_tree (mapping entries) = refl
+    by_tree (mapping named) = refl
 
 pub passed : (kind : Option KeyKind) (line : ℕ) (tree : Tree) → kind ≡ Some PassedOver → [] ≡ key_demands kind line tree
 passed kind line tree is = by_tree tree ∙ ap (λ k. key_demands k line tree) (sym is)
@@ -29,7 +29,7 @@ passed kind line tree is = by_tree tree ∙ ap (λ k. key_demands k line tree) (
     by_tree nothing = refl
     by_tree (scalar text) = refl
     by_tree (list items) = refl
-    by_tree (mapping entries) = refl
+    by_tree (mapping named) = refl
 
 pub used : (kind : Option KeyKind) (form : Form) (line : ℕ) (tree : Tree) → kind ≡ Some (Used form) → value_of_form line form tree ≡ key_demands kind line tree
 used kind form line tree is = by_tree tree ∙ ap (λ k. key_demands k line tree) (sym is)
@@ -38,7 +38,7 @@ used kind form line tree is = by_tree tree ∙ ap (λ k. key_demands k line tree
     by_tree nothing = refl
     by_tree (scalar text) = refl
     by_tree (list items) = refl
-    by_tree (mapping entries) = refl
+    by_tree (mapping named) = refl
 
 -- what a value with children is, with the kind and the tree apart
 pub children : (kind : Option KeyKind) (line : ℕ) (tree other : Tree) → kind ≡ Some Children → tree ≡ other → key_demands (Some Children) line other ≡ key_demands kind line tree
@@ -47,20 +47,20 @@ children kind line tree other is same = λ i. key_demands (sym is i) line (sym s
 -- ---- the keys from a place on
 
 abbrev pub keys_from : List (ℕ × List ℕ × Node) → ℕ → List Demand
-keys_from entries i = each_key (entries_of (map entry_under (drop i entries)))
+keys_from named i = each_key (entries_of (map entry_under (drop i named)))
 
 abbrev pub additions_from : List (ℕ × List ℕ × Node) → ℕ → List Demand
-additions_from entries i = addition_demands (entries_of (map entry_under (drop i entries)))
+additions_from named i = addition_demands (entries_of (map entry_under (drop i named)))
 
-module _ (entries : List (ℕ × List ℕ × Node)) (i : ℕ) where
-  pub keys-done : length entries ≤ i → keys_from entries i ≡ []
-  keys-done past = ap (λ (rest : List (ℕ × List ℕ × Node)). each_key (entries_of (map entry_under rest))) (drop_all i entries past)
+module _ (named : List (ℕ × List ℕ × Node)) (i : ℕ) where
+  pub keys-done : length named ≤ i → keys_from named i ≡ []
+  keys-done past = ap (λ (rest : List (ℕ × List ℕ × Node)). each_key (entries_of (map entry_under rest))) (drop_all i named past)
 
-  pub additions-done : length entries ≤ i → additions_from entries i ≡ []
-  additions-done past = ap (λ (rest : List (ℕ × List ℕ × Node)). addition_demands (entries_of (map entry_under rest))) (drop_all i entries past)
+  pub additions-done : length named ≤ i → additions_from named i ≡ []
+  additions-done past = ap (λ (rest : List (ℕ × List ℕ × Node)). addition_demands (entries_of (map entry_under rest))) (drop_all i named past)
 
-  pub keys-here : (entry : ℕ × List ℕ × Node) → i < length entries → entry ≡ get_or entries i entry → keys_from entries i ≡ key_demands (key_kind entry.1) entry.0 (node_tree entry.2) ++ keys_from entries (i + 1)
-  keys-here entry within is = ap (λ (rest : List (ℕ × List ℕ × Node)). each_key (entries_of (map entry_under rest))) (from_place entries i entry within is)
+  pub keys-here : (entry : ℕ × List ℕ × Node) → i < length named → entry ≡ get_or named i entry → keys_from named i ≡ key_demands (key_kind entry.1) entry.0 (node_tree entry.2) ++ keys_from named (i + 1)
+  keys-here entry within is = ap (λ (rest : List (ℕ × List ℕ × Node)). each_key (entries_of (map entry_under rest))) (from_place named i entry within is)
 
-  pub additions-here : (entry : ℕ × List ℕ × Node) → i < length entries → entry ≡ get_or entries i entry → additions_from entries i ≡ (one entry.0 BadValue (of_form Name entry.1) ++ element_demands entry.0 (node_tree entry.2)) ++ additions_from entries (i + 1)
-  additions-here entry within is = ap (λ (rest : List (ℕ × List ℕ × Node)). addition_demands (entries_of (map entry_under rest))) (from_place entries i entry within is)
+  pub additions-here : (entry : ℕ × List ℕ × Node) → i < length named → entry ≡ get_or named i entry → additions_from named i ≡ (one entry.0 BadValue (of_form Name entry.1) ++ element_demands entry.0 (node_tree entry.2)) ++ additions_from named (i + 1)
+  additions-here entry within is = ap (λ (rest : List (ℕ × List ℕ × Node)). addition_demands (entries_of (map entry_under rest))) (from_place named i entry within is)

@@ -20,20 +20,20 @@ use Rattle.patch_model.proofs.Finding.{joined}
 use Rattle.patch_model.specs.Forms.{AreOrdered, IsNumberText, IsPositive, trimmed}
 
 abbrev pub at_from : List ℕ → List (ℕ × List ℕ × Node) → ℕ → At
-at_from key entries i = at_key key (entries_of (map entry_under (drop i entries)))
+at_from key named i = at_key key (entries_of (map entry_under (drop i named)))
 
-module _ (key : List ℕ) (entries : List (ℕ × List ℕ × Node)) (i : ℕ) (entry : ℕ × List ℕ × Node) (within : i < length entries) (is : entry ≡ get_or entries i entry) where
-  here : at_from key entries i ≡ at_key key (entries_of (map entry_under (entry ∷ drop (i + 1) entries)))
-  here = ap (λ (rest : List (ℕ × List ℕ × Node)). at_key key (entries_of (map entry_under rest))) (from_place entries i entry within is)
+module _ (key : List ℕ) (named : List (ℕ × List ℕ × Node)) (i : ℕ) (entry : ℕ × List ℕ × Node) (within : i < length named) (is : entry ≡ get_or named i entry) where
+  here : at_from key named i ≡ at_key key (entries_of (map entry_under (entry ∷ drop (i + 1) named)))
+  here = ap (λ (rest : List (ℕ × List ℕ × Node)). at_key key (entries_of (map entry_under rest))) (from_place named i entry within is)
 
-  pub at-here : bytes_eq entry.1 key ≡ true → present entry.0 (node_tree entry.2) ≡ at_from key entries i
+  pub at-here : bytes_eq entry.1 key ≡ true → present entry.0 (node_tree entry.2) ≡ at_from key named i
   at-here same = sym (here ∙ rw same refl)
 
-  pub at-other : bytes_eq entry.1 key ≡ false → at_from key entries (i + 1) ≡ at_from key entries i
+  pub at-other : bytes_eq entry.1 key ≡ false → at_from key named (i + 1) ≡ at_from key named i
   at-other other = sym (here ∙ rw other refl)
 
-pub at-none : (key : List ℕ) (entries : List (ℕ × List ℕ × Node)) (i : ℕ) → length entries ≤ i → absent ≡ at_from key entries i
-at-none key entries i past = sym (ap (λ (rest : List (ℕ × List ℕ × Node)). at_key key (entries_of (map entry_under rest))) (drop_all i entries past))
+pub at-none : (key : List ℕ) (named : List (ℕ × List ℕ × Node)) (i : ℕ) → length named ≤ i → absent ≡ at_from key named i
+at-none key named i past = sym (ap (λ (rest : List (ℕ × List ℕ × Node)). at_key key (entries_of (map entry_under rest))) (drop_all i named past))
 
 -- what a reading says of the numbers that a text spells
 abbrev pub Says : List ℕ → Option ℕ → Type 0
@@ -84,16 +84,16 @@ pub lowest-no_low : (l h : ℕ) (low high : Tree) → None ≡ scalar_of low →
 lowest-no_low l h nothing high none = tt
 lowest-no_low l h (scalar text) high none = absurd cc
 lowest-no_low l h (list items) high none = tt
-lowest-no_low l h (mapping entries) high none = tt
+lowest-no_low l h (mapping named) high none = tt
 
 pub lowest-no_high : (l h : ℕ) (low high : Tree) → None ≡ scalar_of high → AllMet (lowest_first (present l low) (present h high))
 lowest-no_high l h nothing high none = tt
 lowest-no_high l h (scalar text) nothing none = tt
 lowest-no_high l h (scalar text) (scalar other) none = absurd cc
 lowest-no_high l h (scalar text) (list items) none = tt
-lowest-no_high l h (scalar text) (mapping entries) none = tt
+lowest-no_high l h (scalar text) (mapping named) none = tt
 lowest-no_high l h (list items) high none = tt
-lowest-no_high l h (mapping entries) high none = tt
+lowest-no_high l h (mapping named) high none = tt
 
 pub lowest-both : (l h : ℕ) (low high : Tree) (lsb msb : List ℕ) → Some lsb ≡ scalar_of low → Some msb ≡ scalar_of high → one h BadValue (ordered (trimmed lsb) (trimmed msb)) ≡ lowest_first (present l low) (present h high)
 lowest-both l h (scalar text) (scalar other) lsb msb first second =
@@ -102,16 +102,16 @@ lowest-both l h (scalar text) (scalar other) lsb msb first second =
     λ i. one h BadValue (ordered (trimmed (same i)) (trimmed (like i)))
 lowest-both l h nothing high lsb msb first second = absurd cc
 lowest-both l h (list items) high lsb msb first second = absurd cc
-lowest-both l h (mapping entries) high lsb msb first second = absurd cc
+lowest-both l h (mapping named) high lsb msb first second = absurd cc
 lowest-both l h (scalar text) nothing lsb msb first second = absurd cc
 lowest-both l h (scalar text) (list items) lsb msb first second = absurd cc
-lowest-both l h (scalar text) (mapping entries) lsb msb first second = absurd cc
+lowest-both l h (scalar text) (mapping named) lsb msb first second = absurd cc
 
 pub width-none : (l : ℕ) (width : Tree) → None ≡ scalar_of width → AllMet (some_width (present l width))
 width-none l nothing none = tt
 width-none l (scalar text) none = absurd cc
 width-none l (list items) none = tt
-width-none l (mapping entries) none = tt
+width-none l (mapping named) none = tt
 
 pub width-some : (l : ℕ) (width : Tree) (text : List ℕ) → Some text ≡ scalar_of width → one l BadValue (positive (trimmed text)) ≡ some_width (present l width)
 width-some l (scalar other) text some =
@@ -119,7 +119,7 @@ width-some l (scalar other) text some =
     ap (λ t. one l BadValue (positive (trimmed t))) same
 width-some l nothing text some = absurd cc
 width-some l (list items) text some = absurd cc
-width-some l (mapping entries) text some = absurd cc
+width-some l (mapping named) text some = absurd cc
 
 pub placed : (line : ℕ) (low high range width a b c d : At) (paired found : Option Fault) → low ≡ a → high ≡ b → range ≡ c → width ≡ d → First (both_or_none line low high) paired → First (place_by range low high width) found → First (both_or_none line a b ++ place_by c a b d) (earlier_of paired found)
 placed line low high range width a b c d paired found p q r w first second =
@@ -130,7 +130,7 @@ pub mark-none : (l : ℕ) (name : Tree) → None ≡ scalar_of name → AllMet (
 mark-none l nothing none = tt
 mark-none l (scalar text) none = absurd cc
 mark-none l (list items) none = tt
-mark-none l (mapping entries) none = tt
+mark-none l (mapping named) none = tt
 
 pub mark-some : (l : ℕ) (name : Tree) (text : List ℕ) → Some text ≡ scalar_of name → one l BadValue (marked (trimmed text)) ≡ name_marked (present l name)
 mark-some l (scalar other) text some =
@@ -138,4 +138,4 @@ mark-some l (scalar other) text some =
     ap (λ t. one l BadValue (marked (trimmed t))) same
 mark-some l nothing text some = absurd cc
 mark-some l (list items) text some = absurd cc
-mark-some l (mapping entries) text some = absurd cc
+mark-some l (mapping named) text some = absurd cc

@@ -50,4 +50,4 @@ word_at code =
 
 -- the rows of a table of words
 abbrev pub coded : {V : Type 0} → (V → ℕ) → List (List ℕ × V) → List (List ℕ × ℕ)
-coded code entries = map (λ entry. (entry.0, code entry.1)) entries
+coded code named = map (λ entry. (entry.0, code entry.1)) named

@@ -48,7 +48,7 @@ abbrev pub value_of_form : ℕ → Form → Tree → List Demand
 value_of_form line form nothing = one line BadValue never
 value_of_form line form (scalar text) = one line BadValue (of_form form (trimmed text))
 value_of_form line form (list items) = one line BadValue never
-value_of_form line form (mapping entries) = one line BadValue never
+value_of_form line form (mapping named) = one line BadValue never
 
 -- the first entry of a key
 pub data At : Type 0 where
@@ -85,9 +85,9 @@ place_by absent low high width = place_or_width low high width
 
 -- what the keys of an element ask of one another; the line is that of the entry that has the keys
 abbrev pub place_demands : ℕ → EntryTrees → List Demand
-place_demands line entries =
-    both_or_none line (at_key (codes "lsb") entries) (at_key (codes "msb") entries)
-    ++ place_by (at_key (codes "bitRange") entries) (at_key (codes "lsb") entries) (at_key (codes "msb") entries) (at_key (codes "bitWidth") entries)
+place_demands line named =
+    both_or_none line (at_key (codes "lsb") named) (at_key (codes "msb") named)
+    ++ place_by (at_key (codes "bitRange") named) (at_key (codes "lsb") named) (at_key (codes "msb") named) (at_key (codes "bitWidth") named)
 
 abbrev mutual
   -- a key among the keys of an element
@@ -95,19 +95,19 @@ abbrev mutual
   key_demands None line nothing = one line UnknownKey never
   key_demands None line (scalar text) = one line UnknownKey never
   key_demands None line (list items) = one line UnknownKey never
-  key_demands None line (mapping entries) = one line UnknownKey never
+  key_demands None line (mapping named) = one line UnknownKey never
   key_demands (Some PassedOver) line nothing = []
   key_demands (Some PassedOver) line (scalar text) = []
   key_demands (Some PassedOver) line (list items) = []
-  key_demands (Some PassedOver) line (mapping entries) = []
+  key_demands (Some PassedOver) line (mapping named) = []
   key_demands (Some (Used form)) line nothing = one line BadValue never
   key_demands (Some (Used form)) line (scalar text) = one line BadValue (of_form form (trimmed text))
   key_demands (Some (Used form)) line (list items) = one line BadValue never
-  key_demands (Some (Used form)) line (mapping entries) = one line BadValue never
+  key_demands (Some (Used form)) line (mapping named) = one line BadValue never
   key_demands (Some Children) line nothing = one line BadValue never
   key_demands (Some Children) line (scalar text) = one line BadValue never
   key_demands (Some Children) line (list items) = one line BadValue never
-  key_demands (Some Children) line (mapping entries) = addition_demands entries
+  key_demands (Some Children) line (mapping named) = addition_demands named
 
   pub each_key : EntryTrees → List Demand
   each_key no_entries = []
@@ -118,7 +118,7 @@ abbrev mutual
   element_demands line nothing = []
   element_demands line (scalar text) = one line BadValue never
   element_demands line (list items) = one line BadValue never
-  element_demands line (mapping entries) = each_key entries ++ place_demands line entries
+  element_demands line (mapping named) = each_key named ++ place_demands line named
 
   -- new names with their keys
   pub addition_demands : EntryTrees → List Demand

@@ -155,4 +155,4 @@ abbrev pub patch_demands : Tree → List Demand
 patch_demands nothing = []
 patch_demands (scalar text) = []
 patch_demands (list inside) = []
-patch_demands (mapping entries) = mapping_demands true entries
+patch_demands (mapping named) = mapping_demands true named

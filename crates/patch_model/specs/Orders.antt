@@ -81,7 +81,7 @@ abbrev mutual
   added_under key nothing = no_more
   added_under key (scalar text) = no_more
   added_under key (list items) = no_more
-  added_under key (mapping entries) = added_at key entries
+  added_under key (mapping named) = added_at key named
 
   pub added_at : List ℕ → EntryTrees → Added
   added_at key no_entries = no_more
@@ -91,7 +91,7 @@ abbrev mutual
   added_below nothing = no_more
   added_below (scalar text) = no_more
   added_below (list items) = no_more
-  added_below (mapping entries) = added_in entries
+  added_below (mapping named) = added_in named
 
 abbrev pub order : ℕ → List PatternItems → Deed → List Order
 order line parents deed = record { line = line; parents = parents; deed = deed } ∷ []
@@ -185,9 +185,9 @@ orders_of word device parents (entry line key tree others) = orders_at word (key
 
 -- the commands of a mapping, without its opened patterns
 abbrev pub own_orders : Bool → List PatternItems → EntryTrees → List Order
-own_orders device parents entries =
-    orders_of Delete device parents entries ++ (orders_of Copy device parents entries ++ (orders_of Modify device parents entries
-    ++ (orders_of Add device parents entries ++ (orders_of Strip device parents entries ++ orders_of Array device parents entries))))
+own_orders device parents named =
+    orders_of Delete device parents named ++ (orders_of Copy device parents named ++ (orders_of Modify device parents named
+    ++ (orders_of Add device parents named ++ (orders_of Strip device parents named ++ orders_of Array device parents named))))
 
 abbrev pub opened_at : KeyWord → List PatternItems → ℕ → List ℕ → List Order → List Order
 opened_at (Command word) parents line key inside = []
@@ -206,14 +206,14 @@ abbrev mutual
   orders_below parents nothing = []
   orders_below parents (scalar text) = []
   orders_below parents (list items) = []
-  orders_below parents (mapping entries) = own_orders false parents entries ++ opened_orders parents entries
+  orders_below parents (mapping named) = own_orders false parents named ++ opened_orders parents named
 
 abbrev pub mapping_orders : Bool → List PatternItems → EntryTrees → List Order
-mapping_orders device parents entries = own_orders device parents entries ++ opened_orders parents entries
+mapping_orders device parents named = own_orders device parents named ++ opened_orders parents named
 
 -- all commands of a patch
 abbrev pub patch_orders : Tree → List Order
 patch_orders nothing = []
 patch_orders (scalar text) = []
 patch_orders (list items) = []
-patch_orders (mapping entries) = mapping_orders true [] entries
+patch_orders (mapping named) = mapping_orders true [] named

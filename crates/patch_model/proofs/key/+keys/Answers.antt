@@ -32,14 +32,14 @@ key_faults-returns t c =
 
 pub addition_faults-loop-entry-preserved : goal.addition_faults-loop-entry-preserved
 addition_faults-loop-entry-preserved t c =
-    let entries = c.args.entries.now in
+    let named = c.args.entries.now in
     let i = c.loop-entry.entry-index in
     let line = c.entry-item.result.0 in
     let name = c.entry-item.result.1 in
     let tree = node_tree c.entry-item.result.2 in
-    past-more (additions_from entries 0) (additions_from entries i) (one line BadValue (of_form Name name) ++ element_demands line tree) (additions_from entries (i + 1))
+    past-more (additions_from named 0) (additions_from named i) (one line BadValue (of_form Name name) ++ element_demands line tree) (additions_from named (i + 1))
     c.loop-entry.found c.earlier.result c.earlier-found.result
-    (additions-here entries i c.entry-item.result c.loop-entry-test.true c.entry-item.is)
+    (additions-here named i c.entry-item.result c.loop-entry-test.true c.entry-item.is)
     (subst (λ (found : Option Fault). First (one line BadValue (of_form Name name) ++ element_demands line tree) found) (sym c.earlier.ensures)
     (joined (one line BadValue (of_form Name name)) (element_demands line tree) c.in_ok-named.named c.in_ok-keyed.keyed
     (subst (λ (text : List ℕ). First (one line BadValue (of_form Name text)) c.in_ok-named.named) (c.as_bytes.ensures.value ∙ c.as_str.ensures) c.in_ok-named.ensures)
@@ -48,13 +48,13 @@ addition_faults-loop-entry-preserved t c =
 
 pub key_faults-loop-entry-preserved : goal.key_faults-loop-entry-preserved
 key_faults-loop-entry-preserved t c =
-    let entries = c.args.entries.now in
+    let named = c.args.entries.now in
     let i = c.loop-entry.entry-index in
     let line = c.entry-item.result.0 in
     let tree = node_tree c.entry-item.result.2 in
-    past-more (keys_from entries 0) (keys_from entries i) (key_demands (key_kind c.entry-item.result.1) line tree) (keys_from entries (i + 1))
+    past-more (keys_from named 0) (keys_from named i) (key_demands (key_kind c.entry-item.result.1) line tree) (keys_from named (i + 1))
     c.loop-entry.found c.in_ok-key_fault.field-0 c.earlier-found.result
-    (keys-here entries i c.entry-item.result c.loop-entry-test.true c.entry-item.is)
+    (keys-here named i c.entry-item.result c.loop-entry-test.true c.entry-item.is)
     (subst (λ (kind : Option KeyKind). First (key_demands kind line tree) c.in_ok-key_fault.field-0) (c.key_kind-kind.ensures ∙ ap key_kind (c.as_bytes.ensures.value ∙ c.as_str.ensures)) c.in_ok-key_fault.ensures)
     c.earlier-found.ensures c.loop-entry.invariant
 
@@ -85,11 +85,11 @@ key_fault-returns-in-List t c =
 
 pub key_fault-returns-in-Map : goal.key_fault-returns-in-Map
 key_fault-returns-in-Map t c =
-    let entries = entries_of (map entry_under c.as_slice.result.now) in
-    let seen : node_tree c.args.node.now ≡ mapping entries =
+    let named = entries_of (map entry_under c.as_slice.result.now) in
+    let seen : node_tree c.args.node.now ≡ mapping named =
     ap node_tree c.in-Map.is ∙ node_tree-mapping c.in-Map.entries ∙ ap (λ (es : List (ℕ × List ℕ × Tree)). mapping (entries_of es)) (entries_under-is c.in-Map.entries ∙ ap (map entry_under) (sym c.as_slice.ensures.value)) in
-    if_ok c.addition_faults.result (First (addition_demands entries)) (First (key_demands c.args.kind c.args.line (node_tree c.args.node.now)))
-    (λ found first. subst (λ (ds : List Demand). First ds found) (children c.args.kind c.args.line (node_tree c.args.node.now) (mapping entries) (c.in-Some.is ∙ ap Some c.in-Children.is) seen) first)
+    if_ok c.addition_faults.result (First (addition_demands named)) (First (key_demands c.args.kind c.args.line (node_tree c.args.node.now)))
+    (λ found first. subst (λ (ds : List Demand). First ds found) (children c.args.kind c.args.line (node_tree c.args.node.now) (mapping named) (c.in-Some.is ∙ ap Some c.in-Children.is) seen) first)
     c.addition_faults.ensures
 
 pub element_fault-returns-in-Empty : goal.element_fault-returns-in-Empty
@@ -103,11 +103,11 @@ element_fault-returns-in-List t c = subst (λ (tree : Tree). First (element_dema
 
 pub element_fault-returns-in_ok-keys-in-Map : goal.element_fault-returns-in_ok-keys-in-Map
 element_fault-returns-in_ok-keys-in-Map t c =
-    let entries = entries_of (map entry_under c.as_slice.result.now) in
-    let seen : node_tree c.args.node.now ≡ mapping entries =
+    let named = entries_of (map entry_under c.as_slice.result.now) in
+    let seen : node_tree c.args.node.now ≡ mapping named =
     ap node_tree c.in-Map.is ∙ node_tree-mapping c.in-Map.entries ∙ ap (λ (es : List (ℕ × List ℕ × Tree)). mapping (entries_of es)) (entries_under-is c.in-Map.entries ∙ ap (map entry_under) (sym c.as_slice.ensures.value)) in
     let same : c.as_slice-in-Map.result.now ≡ c.as_slice.result.now = c.as_slice-in-Map.ensures.value ∙ sym c.as_slice.ensures.value in
     subst (λ (tree : Tree). First (element_demands c.args.line tree) c.earlier.result) (sym seen)
-    (subst (λ (found : Option Fault). First (each_key entries ++ place_demands c.args.line entries) found) (sym c.earlier.ensures)
-    (joined (each_key entries) (place_demands c.args.line entries) c.in_ok-keys-in-Map.keys c.place_fault.result c.in_ok-keys-in-Map.ensures
+    (subst (λ (found : Option Fault). First (each_key named ++ place_demands c.args.line named) found) (sym c.earlier.ensures)
+    (joined (each_key named) (place_demands c.args.line named) c.in_ok-keys-in-Map.keys c.place_fault.result c.in_ok-keys-in-Map.ensures
     (subst (λ (es : List (ℕ × List ℕ × Node)). First (place_demands c.args.line (entries_of (map entry_under es))) c.place_fault.result) same c.place_fault.ensures)))

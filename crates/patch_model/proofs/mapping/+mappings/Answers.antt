@@ -19,13 +19,13 @@ mapping_fault-loop-entry-init t c = past-begun (from (mapping_demands c.args.dev
 
 pub mapping_fault-loop-entry-preserved : goal.mapping_fault-loop-entry-preserved
 mapping_fault-loop-entry-preserved t c =
-    let entries = c.args.entries.now in
+    let named = c.args.entries.now in
     let i = c.loop-entry.entry-index in
     let here = c.entry-item.result in
     let tree = node_tree here.2 in
-    past-more (from (mapping_demands c.args.device) entries 0) (from (mapping_demands c.args.device) entries i) (entry_demands (key_word here.1) c.args.device here.0 here.1 tree (opened_demands here.0 tree)) (from (mapping_demands c.args.device) entries (i + 1))
+    past-more (from (mapping_demands c.args.device) named 0) (from (mapping_demands c.args.device) named i) (entry_demands (key_word here.1) c.args.device here.0 here.1 tree (opened_demands here.0 tree)) (from (mapping_demands c.args.device) named (i + 1))
     c.loop-entry.found c.in_ok-more.more c.earlier-found.result
-    (from-here (mapping_demands c.args.device) entries i here c.loop-entry-test.true c.entry-item.is)
+    (from-here (mapping_demands c.args.device) named i here c.loop-entry-test.true c.entry-item.is)
     (subst (λ (word : KeyWord). First (entry_demands word c.args.device here.0 here.1 tree (opened_demands here.0 tree)) c.in_ok-more.more) (c.key_word-word.ensures ∙ ap key_word (c.as_bytes.ensures.value ∙ c.as_str.ensures)) c.in_ok-more.ensures)
     c.earlier-found.ensures c.loop-entry.invariant
 

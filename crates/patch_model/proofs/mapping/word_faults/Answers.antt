@@ -10,12 +10,12 @@ loop-entry-init c = past-begun (from (word_entries c.args.word c.args.device) c.
 
 pub loop-entry-preserved : goal.loop-entry-preserved
 loop-entry-preserved c =
-    let entries = c.args.entries.now in
+    let named = c.args.entries.now in
     let i = c.loop-entry.entry-index in
     let one = c.entry-item.result in
-    past-more (from (word_entries c.args.word c.args.device) entries 0) (from (word_entries c.args.word c.args.device) entries i) (word_entry c.args.word c.args.device one.0 one.1 (node_tree one.2)) (from (word_entries c.args.word c.args.device) entries (i + 1))
+    past-more (from (word_entries c.args.word c.args.device) named 0) (from (word_entries c.args.word c.args.device) named i) (word_entry c.args.word c.args.device one.0 one.1 (node_tree one.2)) (from (word_entries c.args.word c.args.device) named (i + 1))
     c.loop-entry.found c.in_ok-word_fault.field-0 c.earlier-found.result
-    (from-here (word_entries c.args.word c.args.device) entries i one c.loop-entry-test.true c.entry-item.is) c.in_ok-word_fault.ensures c.earlier-found.ensures c.loop-entry.invariant
+    (from-here (word_entries c.args.word c.args.device) named i one c.loop-entry-test.true c.entry-item.is) c.in_ok-word_fault.ensures c.earlier-found.ensures c.loop-entry.invariant
 
 pub returns : goal.returns
 returns c =

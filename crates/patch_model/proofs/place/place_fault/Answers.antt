@@ -9,8 +9,8 @@ use Rattle.patch_model.proofs.place.place_fault.Goals as goal
 
 pub returns : goal.returns
 returns c =
-    let entries = entries_of (map entry_under c.args.entries.now) in
-    subst (λ (found : Option Fault). First (place_demands c.args.line entries) found) (sym c.earlier.ensures)
+    let named = entries_of (map entry_under c.args.entries.now) in
+    subst (λ (found : Option Fault). First (place_demands c.args.line named) found) (sym c.earlier.ensures)
     (placed c.args.line (at_of c.at_key-low.result) (at_of c.at_key-high.result) (at_of c.at_key-range.result) (at_of c.at_key-width.result)
-    (at_key (codes "lsb") entries) (at_key (codes "msb") entries) (at_key (codes "bitRange") entries) (at_key (codes "bitWidth") entries)
+    (at_key (codes "lsb") named) (at_key (codes "msb") named) (at_key (codes "bitRange") named) (at_key (codes "bitWidth") named)
     c.both_or_none-paired.result c.place_by-placed.result c.at_key-low.ensures c.at_key-high.ensures c.at_key-range.ensures c.at_key-width.ensures c.both_or_none-paired.ensures c.place_by-placed.ensures)
