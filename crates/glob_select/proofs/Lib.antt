@@ -4,3 +4,4 @@ pub mod Items
 pub mod Alternatives
 pub mod Stars
 pub mod Walks
+pub mod PlainItems

@@ -4,5 +4,6 @@ pub mod Spelling
 pub mod Matching
 pub mod Reading
 pub mod Tokens
+pub mod Naming
 pub mod Walking
 pub mod Refusals

@@ -5,6 +5,7 @@
 mod alternative;
 mod matching;
 mod member;
+mod naming;
 mod pattern;
 #[cfg(test)]
 mod tests;

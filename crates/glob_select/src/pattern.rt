@@ -1,6 +1,7 @@
-ghost use Rattle.std.specs.Prelude.{◌≡◌, IfOk, IfErr, List};
+ghost use Rattle.std.specs.Prelude.{◌≡◌, IfOk, IfErr, List, option_map};
 ghost use Rattle.glob_select.specs.Items.{Item};
 ghost use Rattle.glob_select.specs.Matching.{matches};
+ghost use Rattle.glob_select.specs.Naming.{without_open};
 ghost use Rattle.glob_select.specs.Spelling.{SpellsPattern};
 ghost use Rattle.glob_select.specs.Refusals.{RefusedFor};
 ghost use Rattle.glob_select.specs.Reading.{alternatives_of};
@@ -8,6 +9,7 @@ ghost use Rattle.glob_select.specs.declared.pattern.PatternFault.TheVariants.{Me
 
 use crate::alternative::{after_led, after_spaces, is_last, led_at, left_over};
 use crate::matching::fits;
+use crate::naming::{has_one_open, plain_text};
 use std::alloc::{AllocError, Global};
 use std::marker::Model;
 use thiserror::Error;
@@ -78,5 +80,30 @@ impl Pattern {
             rest = after;
         }
         fits(after_spaces(rest), name)
+    }
+
+    /// The same pattern once more.
+    pub fn copy(&self, alloc: Global) -> Result<Pattern, AllocError>
+        ensures { IfOk result (λ pattern. pattern ≡ self.now) }
+    {
+        Ok(Pattern {
+            text: Vec::from_slice(alloc, self.text.as_slice())?,
+        })
+    }
+
+    /// The text of the pattern without its open item (`*`, `?` or a class). `None` where it has
+    /// several alternatives, or not exactly one open item.
+    pub fn without_open(&self, alloc: Global) -> Result<Option<Vec<u8>>, AllocError>
+        ensures { IfOk result (λ found. option_map (λ text. text.items) found ≡ without_open self.now) }
+    {
+        let text = self.text.as_slice();
+        if let Some(_) = led_at(text) {
+            return Ok(None);
+        }
+        let items = after_spaces(text);
+        if !has_one_open(items) {
+            return Ok(None);
+        }
+        Ok(Some(plain_text(alloc, items)?))
     }
 }

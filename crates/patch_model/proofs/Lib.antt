@@ -1,0 +1,13 @@
+pub mod Deciding
+pub mod Finding
+pub mod Copying
+pub mod TrimmedTexts
+pub mod ArrayNames
+pub mod FromPlace
+pub mod Arms
+pub mod Coding
+pub mod Trimming
+pub mod Dots
+pub mod Placing
+pub mod Keys
+pub mod ListedTexts
