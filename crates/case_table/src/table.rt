@@ -58,6 +58,15 @@ impl<'a, const N: usize> CaseTable<'a, N> {
         Ok(CaseTable { rows })
     }
 
+    /// The table of rows that are known to rise, without a look at them.
+    pub fn of_rising(rows: &'a [CaseRow<'a>]) -> CaseTable<'a, N>
+        requires long { length rows.now ≡ N }
+        requires rising { IsTrue (rises (words_of (entries_of rows.now))) }
+        ensures { result ≡ entries_of rows.entry.now }
+    {
+        CaseTable { rows }
+    }
+
     /// The code of the row that has this word; None exactly where no row has it.
     pub fn find(&self, word: &[u8]) -> Option<u16>
         ensures value { result ≡ lookup (bytes_eq word.now) self.now }

@@ -163,6 +163,6 @@ fn is_among<const N: usize>(rows: &[CaseRow], text: &[u8]) -> bool
     requires rising { IsTrue (rises (words_of (entries_of rows.now))) }
     ensures { result ≡ list_any (bytes_eq text.now) (words_of (entries_of rows.now)) }
 {
-    let table = CaseTable::<N>::new(rows).unwrap();
+    let table = CaseTable::<N>::of_rising(rows);
     table.find(text).is_some()
 }

@@ -16,7 +16,7 @@ fn code_of<const N: usize>(rows: &[CaseRow], text: &[u8]) -> Option<u16>
     requires rising { IsTrue (rises (words_of (entries_of rows.now))) }
     ensures { result ≡ lookup (bytes_eq text.now) (entries_of rows.now) }
 {
-    let table = CaseTable::<N>::new(rows).unwrap();
+    let table = CaseTable::<N>::of_rising(rows);
     table.find(text)
 }
 

@@ -17,7 +17,7 @@ pub(crate) fn value_in<T: Copy, const N: usize>(
     requires rising { IsTrue (rises (words_of (entries_of rows.now))) }
     ensures { result ≡ option_and_then (slice_get values.now) (lookup (bytes_eq text.now) (entries_of rows.now)) }
 {
-    let table = CaseTable::<N>::new(rows).unwrap();
+    let table = CaseTable::<N>::of_rising(rows);
     let code = table.find(text)?;
     values.get(usize::from(code)).copied()
 }

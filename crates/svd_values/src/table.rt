@@ -14,7 +14,7 @@ pub(crate) fn code_of<const N: usize>(rows: &[CaseRow], text: &[u8]) -> Option<u
     ensures code { result ≡ lookup (bytes_eq text.now) (entries_of rows.now) }
     ensures among { is_some result ≡ list_any (bytes_eq text.now) (words_of (entries_of rows.now)) }
 {
-    let table = CaseTable::<N>::new(rows).unwrap();
+    let table = CaseTable::<N>::of_rising(rows);
     table.find(text)
 }
 
