@@ -56,3 +56,16 @@ fn other_texts_are_bad_patterns(rt: HostRuntime) -> Result<(), Fail> {
     }
     Ok(())
 }
+
+#[test]
+fn copied_and_without_the_open_item(rt: HostRuntime) -> Result<(), Fail> {
+    let pattern = Pattern::new(rt.alloc(), b" C[1-4]R")?;
+    assert!(rt; pattern.copy(rt.alloc())?.matches(b"C3R"));
+    let plain = pattern.without_open(rt.alloc())?.ok_or("a text")?;
+    assert_eq!(rt; plain.as_slice(), b"CR".as_slice());
+    for text in ["C*,R", "C*R?", "CR"] {
+        let other = Pattern::new(rt.alloc(), text.as_bytes())?;
+        assert!(rt; other.without_open(rt.alloc())?.is_none(), "{text}");
+    }
+    Ok(())
+}

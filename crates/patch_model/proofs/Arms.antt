@@ -28,3 +28,14 @@ module _ (P : Tree → Type 0) (node : Node) where
   pub in_list : (items : Items) (slice : List (ℕ × Node)) → node ≡ ListOf items → slice ≡ (out-Items items).items.items → P (list (items_of (map item_under slice))) → P (node_tree node)
   in_list items slice is same fact =
       in_any_list items is (subst (λ (is : List (ℕ × Tree)). P (list (items_of is))) (ap (map item_under) same ∙ sym (items_under-is items)) fact)
+
+  pub out_map : (named : Entries) (slice : List (ℕ × List ℕ × Node)) → node ≡ Map named → slice ≡ (out-Entries named).entries.items → P (node_tree node) → P (mapping (entries_of (map entry_under slice)))
+  out_map named slice is same fact =
+      subst (λ (es : List (ℕ × List ℕ × Tree)). P (mapping (entries_of es))) (entries_under-is named ∙ sym (ap (map entry_under) same)) (subst P (ap node_tree is ∙ node_tree-mapping named) fact)
+
+  pub out_scalar : (text : List ℕ) → node ≡ Scalar text → P (node_tree node) → P (scalar text)
+  out_scalar text is fact = subst P (ap node_tree is ∙ node_tree-scalar text) fact
+
+  pub out_list : (items : Items) (slice : List (ℕ × Node)) → node ≡ ListOf items → slice ≡ (out-Items items).items.items → P (node_tree node) → P (list (items_of (map item_under slice)))
+  out_list items slice is same fact =
+      subst (λ (is : List (ℕ × Tree)). P (list (items_of is))) (items_under-is items ∙ sym (ap (map item_under) same)) (subst P (ap node_tree is ∙ node_tree-list items) fact)

@@ -11,3 +11,8 @@ pub mod Dots
 pub mod Placing
 pub mod Keys
 pub mod ListedTexts
+pub mod Growing
+pub mod HeldParts
+pub mod Adding
+pub mod Patches
+pub mod Weighing

@@ -1,5 +1,5 @@
 -- The commands of a patch as plain data (svdtools' patch commands, narrowed).
-use Rattle.std.specs.Prelude.{ℕ, List, [], ◌∷◌}
+use Rattle.std.specs.Prelude.{◌≡◌, ℕ, List, [], ◌∷◌, ◌++◌, map}
 use Rattle.glob_select.specs.Items.{Item}
 use Rattle.patch_model.specs.declared.act.Act.{Act}
 use Rattle.patch_model.specs.declared.act.Act.TheVariants as variants
@@ -76,3 +76,7 @@ deed_of (variants.Array target name) = arrays target name
 
 abbrev pub order_of : Command → Order
 order_of command = record { line = command.line; parents = command.parents; deed = deed_of command.act }
+
+-- the commands grow by these
+abbrev pub GrowsBy : List Command → List Command → List Order → Type 0
+GrowsBy old new orders = map order_of new ≡ map order_of old ++ orders

@@ -1,6 +1,6 @@
 -- What a node is: its commands, or the first demand that it doesn't meet.
 use Rattle.std.specs.Prelude.{◌≡◌, ℕ, Bool, false, ◌&&◌, ◌||◌, ◌==◌, nat_lt, List, [], ◌∷◌, ◌⊎◌}
-use Rattle.yaml_block.specs.Trees.{Tree}
+use Rattle.yaml_block.specs.Trees.{Tree, nothing, scalar, list, mapping}
 use Rattle.patch_model.specs.declared.fault.CommandFault.{CommandFault}
 use Rattle.patch_model.specs.declared.fault.CommandFault.TheVariants as faults
 use Rattle.patch_model.specs.declared.fault.FaultKind.{FaultKind}
@@ -9,6 +9,13 @@ use Rattle.patch_model.specs.Acts.{Order}
 use Rattle.patch_model.specs.Demands.{Demand, IsMet}
 use Rattle.patch_model.specs.Mappings.{patch_demands}
 use Rattle.patch_model.specs.Orders.{patch_orders}
+
+-- a patch is a mapping, or nothing
+abbrev pub IsPatch : Tree → Type 0
+IsPatch nothing = Unit {0}
+IsPatch (scalar text) = ⊥
+IsPatch (list items) = ⊥
+IsPatch (mapping named) = Unit {0}
 
 -- the order in which faults of one line are sought
 abbrev pub rank : FaultKind → ℕ

@@ -9,3 +9,4 @@ pub mod Answers
 pub mod Finding
 pub mod Naming
 pub mod Codes
+pub mod Held

@@ -1,6 +1,6 @@
 -- The commands of a mapping in the order in which they are carried out: `_delete`, `_copy`, `_modify`, `_add`, `_strip`, `_array`, then each
 -- opened pattern in the order of the file, with the commands of its mapping behind it (svdtools' patch commands, narrowed).
-use Rattle.std.specs.Prelude.{ℕ, Bool, true, false, not, ◌&&◌, ◌||◌, List, [], ◌∷◌, ◌++◌, Option, Some, None, codes, if◌then◌else◌}
+use Rattle.std.specs.Prelude.{ℕ, Bool, true, false, not, ◌&&◌, ◌||◌, ◌==◌, List, [], ◌∷◌, ◌++◌, Option, Some, None, codes, if◌then◌else◌}
 use Rattle.std.specs.Str.{bytes_eq}
 use Rattle.glob_select.specs.Reading.{alternatives_of}
 use Rattle.yaml_block.specs.Trees.{Tree, ItemTrees, EntryTrees, nothing, scalar, list, mapping, no_items, item, no_entries, entry}
@@ -10,7 +10,9 @@ use Rattle.patch_model.specs.declared.word.KeyWord.{KeyWord}
 use Rattle.patch_model.specs.declared.word.KeyWord.TheVariants.{Command, Ignored, Unknown, Pattern}
 use Rattle.patch_model.specs.declared.word.Word.{Word}
 use Rattle.patch_model.specs.declared.word.Word.TheVariants.{Delete, Copy, Modify, Add, Strip, Array}
-use Rattle.patch_model.specs.Acts.{KeyList, PatternItems, Added, no_more, added, Deed, opens, deletes, copies, modifies, modifies_device, adds, strips, arrays, Order}
+use Rattle.patch_model.specs.declared.word.TextWord.{TextWord}
+use Rattle.patch_model.specs.declared.word.TextWord.TheVariants as texts
+use Rattle.patch_model.specs.Acts.{KeyList, PatternItems, Added, AddedOne, no_more, added, Deed, opens, deletes, copies, modifies, modifies_device, adds, strips, arrays, Order}
 use Rattle.patch_model.specs.Demands.{At, absent, present, at_key}
 use Rattle.patch_model.specs.Forms.{NamesArray, array_name, first_alternative, trimmed}
 use Rattle.patch_model.specs.declared.word.Purpose.{Purpose}
@@ -93,6 +95,10 @@ abbrev mutual
   added_below (list items) = no_more
   added_below (mapping named) = added_in named
 
+-- one element that is added
+abbrev pub added_one : List ℕ → Tree → AddedOne
+added_one name tree = record { name = name; keys = keys_of Adding tree; registers = added_under (codes "registers") tree; fields = added_under (codes "fields") tree }
+
 abbrev pub order : ℕ → List PatternItems → Deed → List Order
 order line parents deed = record { line = line; parents = parents; deed = deed } ∷ []
 
@@ -154,26 +160,34 @@ entry_orders word device parents (entry line key tree others) = order line paren
 abbrev pub entries_orders : Word → Bool → List PatternItems → Tree → List Order
 entries_orders word device parents tree = entry_orders word device parents (entries_in tree)
 
+-- what a text of a command does
+abbrev pub text_deed : TextWord → List ℕ → Deed
+text_deed texts.Delete text = deletes (alternatives_of text)
+text_deed texts.Strip text = strips text
+
 -- the commands that the value of a command's key gives
 abbrev pub word_orders : Word → Bool → List PatternItems → ℕ → Tree → List Order
-word_orders Delete device parents line tree = texts_orders (λ text. deletes (alternatives_of text)) parents line tree
+word_orders Delete device parents line tree = texts_orders (text_deed texts.Delete) parents line tree
 word_orders Copy device parents line tree = entries_orders Copy device parents tree
 word_orders Modify device parents line tree = entries_orders Modify device parents tree
 word_orders Add device parents line tree = entries_orders Add device parents tree
-word_orders Strip device parents line tree = texts_orders strips parents line tree
+word_orders Strip device parents line tree = texts_orders (text_deed texts.Strip) parents line tree
 word_orders Array device parents line tree = entries_orders Array device parents tree
 
+-- the place of a command among those of one mapping
+abbrev pub place : Word → ℕ
+place Delete = 0
+place Copy = 1
+place Modify = 2
+place Add = 3
+place Strip = 4
+place Array = 5
+
 abbrev pub is_word : Word → Word → Bool
-is_word Delete Delete = true
-is_word Copy Copy = true
-is_word Modify Modify = true
-is_word Add Add = true
-is_word Strip Strip = true
-is_word Array Array = true
-is_word one other = false
+is_word one other = place one == place other
 
 abbrev pub orders_at : Word → KeyWord → Bool → List PatternItems → ℕ → Tree → List Order
-orders_at word (Command other) device parents line tree = if is_word word other then word_orders word device parents line tree else []
+orders_at word (Command other) device parents line tree = if is_word word other then word_orders other device parents line tree else []
 orders_at word Ignored device parents line tree = []
 orders_at word Unknown device parents line tree = []
 orders_at word Pattern device parents line tree = []

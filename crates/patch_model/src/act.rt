@@ -1,5 +1,10 @@
+ghost use Rattle.std.specs.Prelude.{◌≡◌, [], ◌∷◌, ◌++◌, length, OnOk, OnErr, option_map, slice_get};
+ghost use Rattle.std.specs.Option.{option_copied};
+ghost use Rattle.patch_model.specs.Acts.{addition_under, additions_under};
+
 use glob_select::Pattern;
-use pac_base::{Name, Seq, Text};
+use pac_base::{Name, NoMemory, Seq, Text};
+use std::alloc::Global;
 
 /// Patterns in order, from the device inwards.
 pub type Patterns = Seq<Pattern>;
@@ -63,4 +68,45 @@ pub struct Addition {
 pub struct Additions {
     /// The elements.
     pub items: Vec<Addition>,
+}
+
+/// What stands at a place counted from 0.
+fn at<T>(all: &[T], index: usize) -> Option<&T>
+    ensures { option_copied result ≡ slice_get all.now index }
+{
+    all.get(index)
+}
+
+impl Additions {
+    /// The empty list, which takes no memory yet.
+    pub fn new(alloc: Global) -> Additions
+        ensures { additions_under result ≡ [] }
+    {
+        Additions {
+            items: Vec::new(alloc),
+        }
+    }
+
+    /// How many there are.
+    pub fn len(&self) -> usize
+        ensures { result ≡ length (additions_under self.now) }
+    {
+        self.items.len()
+    }
+
+    /// The one at a place counted from 0. `None` where the list isn't that long.
+    pub fn get(&self, index: usize) -> Option<&Addition>
+        ensures { option_map addition_under (option_copied result) ≡ slice_get (additions_under self.now) index }
+    {
+        at(self.items.as_slice(), index)
+    }
+
+    /// Adds one at the end. Where memory is wanting the list stays as it was.
+    pub fn push(&mut self, addition: Addition) -> Result<(), NoMemory>
+        ensures ok { OnOk result (additions_under self.new ≡ additions_under self.old ++ addition_under addition ∷ []) }
+        ensures memory { OnErr result (additions_under self.new ≡ additions_under self.old) }
+    {
+        self.items.push(addition)?;
+        Ok(())
+    }
 }

@@ -1,22 +1,25 @@
-ghost use Rattle.std.specs.Prelude.{◌≡◌, ◌++◌, IfOk, OnOk, map, codes};
+ghost use Rattle.std.specs.Prelude.{◌≡◌, IfOk, OnOk, codes};
 ghost use Rattle.yaml_block.specs.Nodes.{node_tree};
 ghost use Rattle.glob_select.specs.Refusals.{IsPattern};
 ghost use Rattle.glob_select.specs.Reading.{alternatives_of};
-ghost use Rattle.patch_model.specs.Acts.{arrays, copies, deed_of, modifies, order_of};
+ghost use Rattle.patch_model.specs.Acts.{GrowsBy, adds_one, arrays, copies, deed_of, modifies, modifies_device};
 ghost use Rattle.patch_model.specs.Answers.{AllMet};
 ghost use Rattle.patch_model.specs.Finding.{at_of};
 ghost use Rattle.patch_model.specs.Forms.{NamesArray, array_name, first_alternative};
-ghost use Rattle.patch_model.specs.Mappings.{array_entry, copy_entry};
-ghost use Rattle.patch_model.specs.Orders.{NamedAt, NamedBy, keys_of, name_by, name_for, order, text_of, text_there};
+ghost use Rattle.patch_model.specs.Held.{IsTextMet, addition_entry, deed_demands};
+ghost use Rattle.patch_model.specs.Mappings.{array_entry, copy_entry, modify_by, modify_entry};
+ghost use Rattle.patch_model.specs.Orders.{NamedAt, NamedBy, added_one, device_kept, entry_deed, keys_of, modify_at, modify_deed, name_by, name_for, order, text_deed, text_of, text_there};
 ghost use Rattle.patch_model.specs.declared.word.Purpose.TheVariants as purposes;
 
-use crate::act::{Act, Command, Commands, Patterns};
-use crate::form::trimmed;
-use crate::kept::kept_keys;
+use crate::act::{Act, Command, Commands, Keys, Patterns};
+use crate::added::added_one;
+use crate::form::{KeyKind, trimmed};
+use crate::kept::{keep_key, kept_keys};
 use crate::leaf::{entries_in, name_of, pattern_of};
 use crate::naming::name_of_pattern;
 use crate::place::{Entry, at_key, scalar};
-use crate::word::Purpose;
+use crate::table::device_key;
+use crate::word::{Purpose, TextWord, Word};
 use pac_base::{Name, NoMemory, Text};
 use std::alloc::Global;
 use yaml_block::Node;
@@ -35,12 +38,12 @@ pub fn copied(alloc: Global, patterns: &Patterns) -> Result<Patterns, NoMemory>
 /// Adds a command.
 pub fn put(
     alloc: Global,
-    made: &mut Commands,
     line: u32,
-    parents: &Patterns,
     act: Act,
+    parents: &Patterns,
+    made: &mut Commands,
 ) -> Result<(), NoMemory>
-    ensures { OnOk result (map order_of made.new ≡ map order_of made.old ++ order line parents.now (deed_of act)) }
+    ensures { OnOk result (GrowsBy made.old made.new (order line parents.now (deed_of act))) }
 {
     let parents = copied(alloc, parents)?;
     made.push(Command { line, parents, act })
@@ -113,4 +116,67 @@ pub fn array_act(alloc: Global, line: u32, target: &Text, node: &Node) -> Result
     let name = array_name(alloc, target, at_key(entries, b"name"))?;
     let target = pattern_of(alloc, target)?;
     Ok(Act::Array { target, name })
+}
+
+fn device_act(alloc: Global, kind: Option<KeyKind>, entry: &Entry) -> Result<Act, NoMemory>
+    ensures { IfOk result (λ act. deed_of act ≡ modifies_device (device_kept kind entry.now.1 (node_tree entry.now.2))) }
+{
+    let mut keys = Keys::new(alloc);
+    keep_key(alloc, &mut keys, true, kind, entry)?;
+    Ok(Act::ModifyDevice(keys))
+}
+
+fn modify_by(alloc: Global, own: Option<Option<KeyKind>>, entry: &Entry) -> Result<Act, NoMemory>
+    requires met { AllMet (modify_by own entry.now.0 entry.now.1 (node_tree entry.now.2)) }
+    ensures { IfOk result (λ act. deed_of act ≡ modify_deed own entry.now.1 (node_tree entry.now.2)) }
+{
+    match own {
+        Some(kind) => device_act(alloc, kind, entry),
+        None => modify_act(alloc, &entry.1, &entry.2),
+    }
+}
+
+fn modify_at(alloc: Global, device: bool, entry: &Entry) -> Result<Act, NoMemory>
+    requires met { AllMet (modify_entry device entry.now.0 entry.now.1 (node_tree entry.now.2)) }
+    ensures { IfOk result (λ act. deed_of act ≡ modify_at device entry.now.1 (node_tree entry.now.2)) }
+{
+    if device {
+        let own = device_key(entry.1.as_str().as_bytes());
+        modify_by(alloc, own, entry)
+    } else {
+        modify_by(alloc, None, entry)
+    }
+}
+
+fn add_act(alloc: Global, entry: &Entry) -> Result<Act, NoMemory>
+    requires met { AllMet (addition_entry entry.now.0 entry.now.1 (node_tree entry.now.2)) }
+    ensures { IfOk result (λ act. deed_of act ≡ adds_one (added_one entry.now.1 (node_tree entry.now.2))) }
+{
+    Ok(Act::Add(added_one(alloc, entry.0, &entry.1, &entry.2)?))
+}
+
+/// What a text of `_delete` or `_strip` does.
+pub fn text_act(alloc: Global, word: TextWord, text: &Text) -> Result<Act, NoMemory>
+    requires met { IsTextMet word text.now }
+    ensures { IfOk result (λ act. deed_of act ≡ text_deed word text.now) }
+{
+    match word {
+        TextWord::Delete => Ok(Act::Delete(pattern_of(alloc, text)?)),
+        TextWord::Strip => Ok(Act::Strip(text.copy(alloc)?)),
+    }
+}
+
+/// What an entry of a command's mapping does.
+pub fn entry_act(alloc: Global, word: Word, device: bool, entry: &Entry) -> Result<Act, NoMemory>
+    requires met { AllMet (deed_demands word device entry.now.0 entry.now.1 (node_tree entry.now.2)) }
+    ensures { IfOk result (λ act. deed_of act ≡ entry_deed word device entry.now.1 (node_tree entry.now.2)) }
+{
+    match word {
+        Word::Delete => text_act(alloc, TextWord::Delete, &entry.1),
+        Word::Copy => copy_act(alloc, entry.0, &entry.1, &entry.2),
+        Word::Modify => modify_at(alloc, device, entry),
+        Word::Add => add_act(alloc, entry),
+        Word::Strip => text_act(alloc, TextWord::Strip, &entry.1),
+        Word::Array => array_act(alloc, entry.0, &entry.1, &entry.2),
+    }
 }

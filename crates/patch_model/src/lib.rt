@@ -4,6 +4,7 @@
 #![tactic(auto)]
 
 mod act;
+mod added;
 mod deed;
 mod entry;
 mod fault;
@@ -11,11 +12,17 @@ mod form;
 mod kept;
 mod key;
 mod leaf;
+mod listed;
 mod mapping;
 mod naming;
+mod opened;
+mod own;
+mod patch;
 mod place;
 mod refusal;
 mod table;
+#[cfg(test)]
+mod tests;
 mod texts;
 mod unmet;
 mod value;
@@ -23,3 +30,4 @@ mod word;
 
 pub use act::{Act, Addition, Additions, Command, Commands, Keys, Patterns};
 pub use fault::CommandFault;
+pub use patch::commands;

@@ -17,7 +17,8 @@ use yaml_block::Node;
 /// An entry of a mapping: its line, its key and its value.
 pub type Entry = (u32, Text, Node);
 
-fn is_key(key: &Text, wanted: &[u8]) -> bool
+/// Whether a key is this text.
+pub fn is_key(key: &Text, wanted: &[u8]) -> bool
     ensures { result ≡ bytes_eq key.now wanted.now }
 {
     key.as_str().as_bytes() == wanted

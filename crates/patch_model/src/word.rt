@@ -15,6 +15,15 @@ pub enum Word {
     Array,
 }
 
+/// The commands whose values are texts, alone or in a list.
+#[derive(Clone, Copy, PartialEq, Eq)]
+pub enum TextWord {
+    /// `_delete`
+    Delete,
+    /// `_strip`
+    Strip,
+}
+
 /// What a key of a mapping is.
 #[derive(Clone, Copy, PartialEq, Eq)]
 pub enum KeyWord {
