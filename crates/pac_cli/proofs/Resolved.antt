@@ -83,7 +83,7 @@ not_checked bytes rows (Limit fault) d plain flat h = absurd h
 
 -- the rows were checked
 pub is_resolved : (bytes : List ℕ) (rows : Rows) (result : Result Rows PacFault) → HasAnswer bytes (described rows) → first_source rows ≡ None → first_dimension rows ≡ None → Checks rows result → Resolves bytes result
-is_resolved bytes rows (Ok same) d plain flat h = rw h.0 (come_to bytes rows (checked rows) d (rw (plain, flat, h.1) refl), flat)
+is_resolved bytes rows (Ok same) d plain flat h = rw h.0 (come_to bytes rows (checked rows) d (rw (plain, flat, h.1) refl))
 is_resolved bytes rows (Err fault) d plain flat h = not_checked bytes rows fault d plain flat h
 
 -- the same of rows that a passage kept

@@ -9,7 +9,6 @@ use Rattle.overlap_check.specs.Told.{first_of, told_fault}
 use Rattle.svd_model.specs.Checking.{Fault, loose_faults}
 use Rattle.svd_model.specs.Keys.{Key}
 use Rattle.svd_model.specs.Steps.{Step}
-use Rattle.svd_model.specs.Unbuilt.{first_dimension}
 use Rattle.svd_model.specs.declared.passages.UnbuiltFault.{UnbuiltFault}
 use Rattle.svd_model.specs.declared.passages.UnbuiltFault.TheVariants as unbuilt
 use Rattle.svd_reader.specs.Described.{Answer as Reading, too_many, described, HasAnswer}
@@ -86,9 +85,9 @@ ResolveFault bytes (Read name) = ⊥
 ResolveFault bytes Write = ⊥
 ResolveFault bytes fault = IsDecided bytes fault
 
--- the rows to which the bytes of a description come, which hold no dimension, or why they come to none
+-- the rows to which the bytes of a description come, or why they come to none
 abbrev pub Resolves : List ℕ → Result (List (Row Step Key)) PacFault → Type 0
-Resolves bytes (Ok rows) = ComeTo bytes (checked rows) × (first_dimension rows ≡ None)
+Resolves bytes (Ok rows) = ComeTo bytes (checked rows)
 Resolves bytes (Err fault) = ResolveFault bytes fault
 
 -- the bytes are answered by a fault of the description, or pass a limit of its parts

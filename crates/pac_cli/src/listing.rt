@@ -1,4 +1,4 @@
-ghost use Rattle.std.specs.Prelude.{◌≡◌, All, IfErr, IfOk, None};
+ghost use Rattle.std.specs.Prelude.{◌≡◌, All, IfErr, IfOk};
 ghost use Rattle.std.specs.Result.{result_err};
 ghost use Rattle.pac_cli.specs.Causes.{StandsFor, world};
 ghost use Rattle.pac_cli.specs.Stages.{ReadsInput, WritesText, paper, shelf};
@@ -6,7 +6,6 @@ ghost use Rattle.pac_cli.specs.declared.command.Command.TheVariants.{Listing};
 ghost use Rattle.pac_cli.specs.declared.fault.PacFault.TheVariants.{Memory};
 ghost use Rattle.reg_table.specs.Listing.{IsListed, listing};
 ghost use Rattle.reg_table.specs.Registers.{table_of};
-ghost use Rattle.svd_model.specs.Unbuilt.{first_dimension};
 
 use crate::fault::{LimitFault, PacFault};
 use crate::resolving::resolve;
@@ -55,7 +54,6 @@ fn read_input<F: Files>(alloc: Global, name: Text, files: &mut F) -> Result<Byte
 
 /// The table of the description's registers, which can be listed.
 fn rows_of(alloc: Global, state: &Checked) -> Result<Table, PacFault>
-    requires { first_dimension state.now ≡ None }
     ensures rows { IfOk result (λ rows. rows ≡ table_of state.now) }
     ensures listed { IfOk result (λ rows. All IsListed rows) }
     ensures memory { IfErr result (λ fault. fault ≡ Memory) }
@@ -80,7 +78,6 @@ fn write_rows<S: Sink>(alloc: Global, rows: &Table, out: &mut S) -> Result<(), P
 
 /// Writes the lines of the description's registers and fields.
 fn write_listing<S: Sink>(alloc: Global, state: &Checked, out: &mut S) -> Result<(), PacFault>
-    requires { first_dimension state.now ≡ None }
     ensures { WritesText (listing (table_of state.now)) (paper (S.written out.old) (S.faults out.old)) (paper (S.written out.new) (S.faults out.new)) result }
 {
     let rows = rows_of(alloc, state)?;

@@ -1,32 +1,31 @@
 -- Where checking finds no fault in the flat rows, each element that a walk of the tree meets fits.
-use Rattle.std.proofs.Common.{◌≡◌, ℕ, zero, suc, ◌+◌, ◌^◌, ◌<◌, ◌≤◌, Bool, true, false, ◌||◌, not, cond, List, [], ◌∷◌, ◌++◌, map, filter, Option, Some, None, refl, sym, ap, ap₂, ◌∙◌, subst, arith}
-use Rattle.std.specs.List.{AllByRecursion, flat_map, list_any, zip}
+use Rattle.std.proofs.Common.{◌≡◌, ℕ, zero, suc, ◌+◌, ◌*◌, ◌^◌, ◌<◌, ◌≤◌, Bool, true, false, ◌||◌, not, cond, List, [], ◌∷◌, ◌++◌, length, map, filter, Option, Some, None, unwrap_or, refl, sym, ap, ap₂, ◌∙◌, subst, arith}
+use Rattle.std.specs.List.{AllByRecursion, flat_map, list_any, range_with_len, sum_by, zip}
 use Rattle.std.proofs.lemmas.Bool.Decides.{nat_tests}
 use Rattle.std.proofs.lemmas.List.{reverse-append}
 use Rattle.std.proofs.lemmas.List.Folds.{list_any-append}
 use Rattle.std.proofs.lemmas.List.Sums.{sum_by-cons}
 use Rattle.pac_base.specs.Widths.{bits_of}
-use Rattle.reg_table.specs.Walk.{FitsHere, FitIn, props_inside}
-use Rattle.reg_table.proofs.Tables.{ends-with, properties-down, total, total-down, device-start, device-holds}
+use Rattle.reg_table.specs.Walk.{FitsHere, FitIn, IsAmong, props_inside}
+use Rattle.reg_table.proofs.Exchanges.{every-left, every-right}
+use Rattle.reg_table.proofs.Tables.{ends-with, properties-down, address-down, device-address, device-holds, distinct-steps}
 use Rattle.svd_model.specs.declared.device.Device.{Device}
 use Rattle.svd_model.specs.declared.props.Props.{Props}
 use Rattle.svd_model.specs.Checking.{bad_width, address_range, field_range, bytes_of, is_size, is_field_within, size_down, width_down, is_past, some_past, has_past_member, bad_widths, past_ranges, fields_past, loose_faults}
 use Rattle.svd_model.specs.Facts.{IsUnfoldedElement, IsChecked, IsArrayDim}
 use Rattle.svd_model.specs.Keys.{Key, dim_count}
 use Rattle.svd_model.specs.Properties.{nearest}
-use Rattle.svd_model.specs.Stating.{value_of, stated_dim, is_of, start_of, properties_of, address_of, indexes_of, choices, members_of, paths_of, paths_of_kind, keys_down, keys_at}
-use Rattle.svd_model.specs.Steps.{Step, Kind, peripheral, cluster, register, field, set, value, same_step, same_key}
+use Rattle.svd_model.specs.Stating.{value_of, stated_dim, stated_base, stated_offset, stated_increment, is_of, start_of, properties_of, address_of, indexes_of, choices, members_of, paths_of, paths_of_kind, keys_down, keys_at}
+use Rattle.svd_model.specs.Steps.{Step, Kind, peripheral, cluster, register, field, set, value, same_step}
 use Rattle.svd_model.specs.Trees.{device_tree, device_rows, device_places}
 use Rattle.svd_model.specs.Visits.{Visit, visit_at, visits_of, visit_below, visits}
 use Rattle.svd_model.proofs.Stated.{device-dim}
-use Rattle.svd_model.proofs.Steps.{same_step-finer}
 use Rattle.svd_model.proofs.Walking.{walk-rows}
 use Rattle.svd_rows.specs.Elements.{IsDistinct, Every}
 use Rattle.svd_rows.specs.Forest.{Forest, leaf, node}
 use Rattle.svd_rows.specs.LookUps.{ends_with, keys_of}
 use Rattle.svd_rows.specs.Ranks.{stated}
 use Rattle.svd_rows.specs.Rows.{Row}
-use Rattle.svd_rows.proofs.Facts.{IsDistinct-finer}
 use Rattle.svd_rows.proofs.LookUps.{keys_of-rows}
 
 -- ---- lists
@@ -64,14 +63,6 @@ joined : {X Y : Type 0} (view : X → Y) (P Q R : X → Type 0) (S : Y → Type 
 joined view P Q R S make [] p q r = tt
 joined view P Q R S make (x ∷ xs) p q r = (make x p.0 q.0 r.0, joined view P Q R S make xs p.1 q.1 r.1)
 
-all-left : {X : Type 0} (P : X → Type 0) (xs ys : List X) → AllByRecursion P (xs ++ ys) → AllByRecursion P xs
-all-left P [] ys h = tt
-all-left P (x ∷ xs) ys h = (h.0, all-left P xs ys h.1)
-
-all-right : {X : Type 0} (P : X → Type 0) (xs ys : List X) → AllByRecursion P (xs ++ ys) → AllByRecursion P ys
-all-right P [] ys h = h
-all-right P (x ∷ xs) ys h = all-right P xs ys h.1
-
 right_false : (a b : Bool) → (a || b) ≡ false → b ≡ false
 right_false true b h = absurd cc
 right_false false b h = h
@@ -84,60 +75,91 @@ not_false : (b : Bool) → not b ≡ false → b ≡ true
 not_false true h = refl
 not_false false h = absurd cc
 
--- ---- the first member of an element
-
-first_index : Option ℕ → Option ℕ
-first_index None = None
-first_index (Some n) = Some 0
+-- ---- the members of an element
 
 abbrev HasMembers : List Key → Type 0
 HasMembers keys = value_of stated_dim keys ≡ Some 0 → ⊥
 
-first_member : List (List Key) → List (Option ℕ)
-first_member down = map (λ keys. first_index (value_of stated_dim keys)) down
+-- each element on the way down has members, and this one among them
+abbrev Chosen : List (List Key) → List (Option ℕ) → Type 0
+Chosen [] [] = Unit {0}
+Chosen [] (index ∷ chosen) = ⊥
+Chosen (keys ∷ down) [] = ⊥
+Chosen (keys ∷ down) (index ∷ chosen) = HasMembers keys × IsAmong (value_of stated_dim keys) index × Chosen down chosen
 
 any-map : {X Y : Type 0} (f : Y → Bool) (g : X → Y) (xs : List X) → list_any f (map g xs) ≡ list_any (λ x. f (g x)) xs
 any-map f g [] = refl
 any-map f g (x ∷ xs) = ap (λ b. f (g x) || b) (any-map f g xs)
 
-first-chosen : (down : List (List Key)) → AllByRecursion HasMembers down → (f : List (Option ℕ) → Bool) → list_any f (members_of down) ≡ false → f (first_member down) ≡ false
-unfolding members_of choices first_member first_index
-first-chosen [] has f h = left_false (f []) false h
-first-chosen (keys ∷ down) has f h = cases (value_of stated_dim keys) has.0 h (first-chosen down has.1)
+any-agree : {X : Type 0} (f g : X → Bool) → ((x : X) → f x ≡ g x) → (xs : List X) → list_any f xs ≡ list_any g xs
+any-agree f g same [] = refl
+any-agree f g same (x ∷ xs) = ap₂ (λ a b. a || b) (same x) (any-agree f g same xs)
+
+-- an index that starts as far behind what is round it as this one, and with which nothing passes
+abbrev Passed : (List (Option ℕ) → Bool) → List (List (Option ℕ)) → Option ℕ → Type 0
+Passed f others index = (x : Option ℕ) × (unwrap_or x 0 ≡ unwrap_or index 0) × (list_any (λ chosen. f (x ∷ chosen)) others ≡ false)
+
+module _ (f : List (Option ℕ) → Bool) (others : List (List (Option ℕ))) where
+  abbrev each_way : List (Option ℕ) → List (List (Option ℕ))
+  each_way indexes = flat_map (λ x. map (λ chosen. x ∷ chosen) others) indexes
+
+  front : (index : Option ℕ) (more : List (Option ℕ)) → list_any f (each_way (index ∷ more)) ≡ false → list_any (λ chosen. f (index ∷ chosen)) others ≡ false
+  front index more e =
+      sym (any-map f (λ chosen. index ∷ chosen) others)
+      ∙ left_false (list_any f (map (λ chosen. index ∷ chosen) others)) (list_any f (each_way more)) (sym (list_any-append f (map (λ chosen. index ∷ chosen) others) (each_way more)) ∙ e)
+
+  in_range : (a n i : ℕ) → i < n → list_any f (each_way (map Some (range_with_len a n))) ≡ false → list_any (λ chosen. f (Some (a + i) ∷ chosen)) others ≡ false
+  in_range a zero i less e = absurd (omega (arith, less))
+  in_range a (suc n) zero less e =
+      ap (λ m. list_any (λ chosen. f (Some m ∷ chosen)) others) (omega arith) ∙ front (Some a) (map Some (range_with_len (a + 1) n)) e
+  in_range a (suc n) (suc i) less e =
+      ap (λ m. list_any (λ chosen. f (Some m ∷ chosen)) others) (omega arith)
+      ∙ in_range (a + 1) n i (omega (arith, less))
+      (right_false (list_any f (map (λ chosen. Some a ∷ chosen) others)) (list_any f (each_way (map Some (range_with_len (a + 1) n)))) (sym (list_any-append f (map (λ chosen. Some a ∷ chosen) others) (each_way (map Some (range_with_len (a + 1) n)))) ∙ e))
+
+  passed : (dim index : Option ℕ) → (dim ≡ Some 0 → ⊥) → IsAmong dim index → list_any f (each_way (indexes_of dim)) ≡ false → Passed f others index
+  passed None None some among e = (None, refl, front None [] e)
+  passed None (Some i) some among e = absurd (omega (arith, among))
+  passed (Some zero) index some among e = absurd (some refl)
+  passed (Some (suc n)) None some among e = (Some 0, refl, front (Some 0) (map Some (range_with_len (0 + 1) n)) e)
+  passed (Some (suc n)) (Some i) some among e = (Some i, refl, ap (λ m. list_any (λ chosen. f (Some m ∷ chosen)) others) (omega arith) ∙ in_range 0 (suc n) i among e)
+
+-- a test that no member passes, this one doesn't
+none-chosen : (test : ℕ → Bool) (down : List (List Key)) (chosen : List (Option ℕ)) → Chosen down chosen → list_any (λ member. test (address_of down member)) (members_of down) ≡ false → test (address_of down chosen) ≡ false
+unfolding members_of choices address_of
+none-chosen test [] [] has e = left_false (test 0) false e
+none-chosen test [] (index ∷ chosen) has e = absurd has
+none-chosen test (keys ∷ down) [] has e = absurd has
+none-chosen test (keys ∷ down) (index ∷ chosen) has e =
+    let way = passed (λ member. test (sum_by start (zip (keys ∷ down) member))) (choices (map (λ keys. indexes_of (value_of stated_dim keys)) down)) (value_of stated_dim keys) index has.0 has.1 e in
+    let same : start_of keys way.0 ≡ start_of keys index = ap (λ n. unwrap_or (value_of stated_base keys) 0 + unwrap_or (value_of stated_offset keys) 0 + n * unwrap_or (value_of stated_increment keys) 0) way.1 in
+    ap test (sum_by-cons start (keys, index) (zip down chosen))
+    ∙ none-chosen (λ n. test (start_of keys index + n)) down chosen has.2
+    (any-agree _ _ (λ member. ap test (ap (λ n. n + sum_by start (zip down member)) (sym same) ∙ sym (sum_by-cons start (keys, way.0) (zip down member)))) (choices (map (λ keys. indexes_of (value_of stated_dim keys)) down))
+    ∙ way.2)
   where
-    others : List (List (Option ℕ))
-    others = choices (map (λ keys. indexes_of (value_of stated_dim keys)) down)
-
-    front : (index : Option ℕ) (more : List (List (Option ℕ))) → list_any f (map (λ chosen. index ∷ chosen) others ++ more) ≡ false → list_any (λ chosen. f (index ∷ chosen)) others ≡ false
-    front index more e =
-        sym (any-map f (λ chosen. index ∷ chosen) others)
-        ∙ left_false (list_any f (map (λ chosen. index ∷ chosen) others)) (list_any f more) (sym (list_any-append f (map (λ chosen. index ∷ chosen) others) more) ∙ e)
-
-    cases : (dim : Option ℕ) → (dim ≡ Some 0 → ⊥) → list_any f (flat_map (λ x. map (λ chosen. x ∷ chosen) others) (indexes_of dim)) ≡ false → ((g : List (Option ℕ) → Bool) → list_any g others ≡ false → g (map (λ keys. first_index (value_of stated_dim keys)) down) ≡ false) → f (first_index dim ∷ map (λ keys. first_index (value_of stated_dim keys)) down) ≡ false
-    cases None some e rest = rest (λ chosen. f (None ∷ chosen)) (front None [] e)
-    cases (Some zero) some e rest = absurd (some refl)
-    cases (Some (suc n)) some e rest = rest (λ chosen. f (Some 0 ∷ chosen)) (front (Some 0) _ e)
-
-first-start : (keys : List Key) (dim : Option ℕ) → start_of keys (first_index dim) ≡ start_of keys None
-unfolding first_index
-first-start keys None = refl
-first-start keys (Some n) = refl
-
-first-address : (down : List (List Key)) → address_of down (first_member down) ≡ total down
-unfolding address_of first_member
-first-address [] = refl
-first-address (keys ∷ down) =
-    sum_by-cons (λ (level : List Key × Option ℕ). start_of level.0 level.1) (keys, first_index (value_of stated_dim keys)) (zip down (map (λ keys. first_index (value_of stated_dim keys)) down))
-    ∙ ap₂ (λ a b. a + b) (first-start keys (value_of stated_dim keys)) (first-address down)
+    start : List Key × Option ℕ → ℕ
+    start level = start_of level.0 level.1
 
 not-past : (room address : ℕ) → is_past room address ≡ false → address + room ≤ 2 ^ 64
 not-past room address e = grind (arith, nat_tests, e)
 
--- where no member is past the addresses, the element without indexes isn't
-none-past : (room : ℕ) (down : List (List Key)) → AllByRecursion HasMembers down → some_past room down ≡ false → total down + room ≤ 2 ^ 64
+-- where no member is past the addresses, this one isn't
+none-past : (room : ℕ) (down : List (List Key)) (chosen : List (Option ℕ)) → Chosen down chosen → some_past room down ≡ false → address_of down chosen + room ≤ 2 ^ 64
 unfolding some_past
-none-past room down has e =
-    not-past room (total down) (ap (is_past room) (sym (first-address down)) ∙ first-chosen down has (λ member. is_past room (address_of down member)) e)
+none-past room down chosen has e = not-past room (address_of down chosen) (none-chosen (is_past room) down chosen has e)
+
+further : (down : List (List Key)) (chosen : List (Option ℕ)) (keys : List Key) (index : Option ℕ) → Chosen down chosen → HasMembers keys → IsAmong (value_of stated_dim keys) index → Chosen (down ++ keys ∷ []) (chosen ++ index ∷ [])
+further [] [] keys index has some among = (some, among, tt)
+further [] (other ∷ chosen) keys index has some among = absurd has
+further (first ∷ down) [] keys index has some among = absurd has
+further (first ∷ down) (other ∷ chosen) keys index has some among = (has.0, has.1, further down chosen keys index has.2 some among)
+
+as_many : (down : List (List Key)) (chosen : List (Option ℕ)) → Chosen down chosen → length down ≡ length chosen
+as_many [] [] has = refl
+as_many [] (index ∷ chosen) has = absurd has
+as_many (keys ∷ down) [] has = absurd has
+as_many (keys ∷ down) (index ∷ chosen) has = ap suc (as_many down chosen has.2)
 
 -- the dimension of an array has a member
 has-members : (keys : List Key) → AllByRecursion IsArrayDim keys → HasMembers keys
@@ -196,49 +218,45 @@ module _ (all : List (Row Step Key)) where
 
 -- ---- the elements that the walk meets
 
-all-snoc : {X : Type 0} (P : X → Type 0) (xs : List X) (x : X) → AllByRecursion P xs → P x → AllByRecursion P (xs ++ x ∷ [])
-all-snoc P [] x h p = (p, tt)
-all-snoc P (y ∷ xs) x h p = (h.0, all-snoc P xs x h.1 p)
-
 less : (n m : ℕ) → n + 1 ≤ m → n < m
 less n m h = omega arith
 
-fits-here : (path : List Step) (down : List (List Key)) (kind : Kind) (name : List ℕ) (number : ℕ) (ks : List Key) (c : Forest Step Key) → Told (visit_below path down (record { kind = kind; name = name; number = number }) ks c) → IsUnfoldedElement (record { kind = kind; name = name; number = number }) ks → IsDistinct same_step c → AllByRecursion HasMembers (down ++ ks ∷ []) → FitsHere (total (down ++ ks ∷ [])) (properties_of (down ++ ks ∷ [])) (record { kind = kind; name = name; number = number }) ks c
-fits-here path down peripheral name number ks c told element distinct has = less _ _ (none-past 1 (down ++ ks ∷ []) has (told.past path _ refl))
-fits-here path down cluster name number ks c told element distinct has = less _ _ (none-past 1 (down ++ ks ∷ []) has (told.past path _ refl))
-fits-here path down register name number ks c told element distinct has = (
-  told.sized (ends-with (is_of register) path (record { kind = register; name = name; number = number })),
-  none-past (bytes_of (width_down (down ++ ks ∷ []))) (down ++ ks ∷ []) has (told.past path _ refl),
-  distinct,
-)
-fits-here path down field name number ks c told element distinct has =
-    ap (is_field_within (bits_of (width_down (down ++ ks ∷ [])))) (sym (keys_of-rows (record { keys = ks; below = c }))) ∙ told.fields (ends-with (is_of field) path (record { kind = field; name = name; number = number }))
-fits-here path down set name number ks c told element distinct has = tt
-fits-here path down value name number ks c told element distinct has = element.form.0
+module _ (path : List Step) (down : List (List Key)) (chosen : List (Option ℕ)) (index : Option ℕ) (name : List ℕ) (number : ℕ) (ks : List Key) (c : Forest Step Key) where
+  fits-here : (kind : Kind) → Told (visit_below path down (record { kind = kind; name = name; number = number }) ks c) → IsUnfoldedElement (record { kind = kind; name = name; number = number }) ks → IsDistinct same_step c → Chosen (down ++ ks ∷ []) (chosen ++ index ∷ []) → FitsHere (address_of (down ++ ks ∷ []) (chosen ++ index ∷ [])) (properties_of (down ++ ks ∷ [])) (record { kind = kind; name = name; number = number }) ks c
+  fits-here peripheral told element distinct has = less _ _ (none-past 1 (down ++ ks ∷ []) (chosen ++ index ∷ []) has (told.past path _ refl))
+  fits-here cluster told element distinct has = less _ _ (none-past 1 (down ++ ks ∷ []) (chosen ++ index ∷ []) has (told.past path _ refl))
+  fits-here register told element distinct has = (
+    told.sized (ends-with (is_of register) path (record { kind = register; name = name; number = number })),
+    none-past (bytes_of (width_down (down ++ ks ∷ []))) (down ++ ks ∷ []) (chosen ++ index ∷ []) has (told.past path _ refl),
+    distinct,
+  )
+  fits-here field told element distinct has =
+      ap (is_field_within (bits_of (width_down (down ++ ks ∷ [])))) (sym (keys_of-rows (record { keys = ks; below = c }))) ∙ told.fields (ends-with (is_of field) path (record { kind = field; name = name; number = number }))
+  fits-here set told element distinct has = tt
+  fits-here value told element distinct has = element.form.0
 
-fit-visits : (path : List Step) (down : List (List Key)) (g : Forest Step Key) → AllByRecursion Told (visits path down g) → Every IsUnfoldedElement g → IsDistinct same_step g → AllByRecursion HasMembers down → FitIn (total down) (properties_of down) g
+fit-visits : (path : List Step) (down : List (List Key)) (chosen : List (Option ℕ)) (g : Forest Step Key) → AllByRecursion Told (visits path down g) → Every IsUnfoldedElement g → IsDistinct same_step g → Chosen down chosen → FitIn (address_of down chosen) (properties_of down) g
 unfolding visits Every IsDistinct FitIn
-fit-visits path down leaf told elements distinct has = tt
-fit-visits path down (node s ks c n) told elements distinct has =
-    let has_all = all-snoc HasMembers down ks has (has-members ks elements.0.members) in
-    let below = fit-visits (path ++ s ∷ []) (down ++ ks ∷ []) c (all-left Told (visits (path ++ s ∷ []) (down ++ ks ∷ []) c) (visits path down n) told.1) elements.1 distinct.1 has_all in
-    let here = fits-here path down s.kind s.name s.number ks c told.0 elements.0 distinct.1 has_all in
-    let moved : ◌≡◌ {A = ℕ × Props} (total (down ++ ks ∷ []), properties_of (down ++ ks ∷ [])) (total down + start_of ks None, props_inside ks (properties_of down)) = λ i. (total-down down ks i, properties-down down ks i) in (
-      subst (λ (x : ℕ × Props). FitsHere x.0 x.1 s ks c) moved here,
-      subst (λ (x : ℕ × Props). FitIn x.0 x.1 c) moved below,
-      fit-visits path down n (all-right Told (visits (path ++ s ∷ []) (down ++ ks ∷ []) c) (visits path down n) told.1) elements.2 distinct.2 has,
-    )
+fit-visits path down chosen leaf told elements distinct has = tt
+fit-visits path down chosen (node s ks c n) told elements distinct has = (
+  λ index among.
+      let all = further down chosen ks index has (has-members ks elements.0.members) among in
+      let here = fits-here path down chosen index s.name s.number ks c s.kind told.0 elements.0 distinct.1 all in
+      let inner = fit-visits (path ++ s ∷ []) (down ++ ks ∷ []) (chosen ++ index ∷ []) c (every-left Told (visits (path ++ s ∷ []) (down ++ ks ∷ []) c) (visits path down n) told.1) elements.1 distinct.1 all in
+      let moved : ◌≡◌ {A = ℕ × Props} (address_of (down ++ ks ∷ []) (chosen ++ index ∷ []), properties_of (down ++ ks ∷ [])) (address_of down chosen + start_of ks index, props_inside ks (properties_of down)) = λ i. (address-down down chosen ks index (as_many down chosen has) i, properties-down down ks i) in (
+        subst (λ (x : ℕ × Props). FitsHere x.0 x.1 s ks c) moved here,
+        subst (λ (x : ℕ × Props). FitIn x.0 x.1 c) moved inner,
+      ),
+  fit-visits path down chosen n (every-right Told (visits (path ++ s ∷ []) (down ++ ks ∷ []) c) (visits path down n) told.1) elements.2 distinct.2 has,
+)
 
 -- a checked device fits
-pub distinct-steps : (device : Device) → IsChecked device → IsDistinct same_step (device_tree device).below
-distinct-steps device checked = IsDistinct-finer same_key same_step same_step-finer (device_tree device).below checked.unfolded.distinct
-
 pub checked-fits : (device : Device) → IsChecked device → FitIn 0 device.props (device_tree device).below
 unfolding device_tree
 checked-fits device checked =
     let keys = stated (device_places device) in
-    let told = subst (λ (all : List Visit). AllByRecursion Told all) (walk-rows (device_tree device) (distinct-steps device checked)) (all-told (device_rows device) checked.faultless) in
+    let told = subst (λ (all : List Visit). AllByRecursion Told all) (walk-rows (device_tree device) (distinct-steps device checked.unfolded)) (all-told (device_rows device) checked.faultless) in
     let none : HasMembers keys = λ e. absurd (let no = sym (device-dim device) ∙ e in cc) in
-    let fit = fit-visits [] (keys ∷ []) (device_tree device).below told.1 checked.unfolded.elements (distinct-steps device checked) (none, tt) in
-    let moved : ◌≡◌ {A = ℕ × Props} (total (keys ∷ []), properties_of (keys ∷ [])) (0, device.props) = λ i. ((ap (λ n. n + 0) (device-start device)) i, device-holds device i) in
+    let fit = fit-visits [] (keys ∷ []) (None ∷ []) (device_tree device).below told.1 checked.unfolded.elements (distinct-steps device checked.unfolded) (none, tt, tt) in
+    let moved : ◌≡◌ {A = ℕ × Props} (address_of (keys ∷ []) (None ∷ []), properties_of (keys ∷ [])) (0, device.props) = λ i. (device-address device i, device-holds device i) in
     subst (λ (x : ℕ × Props). FitIn x.0 x.1 (device_tree device).below) moved fit

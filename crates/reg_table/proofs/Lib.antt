@@ -1,8 +1,10 @@
 pub mod Calling
+pub mod Exchanges
 pub mod Faults
 pub mod Gathering
 pub mod Masking
+pub mod Members
 pub mod Parts
 pub mod Tables
-pub mod Undimensioned
+pub mod Unrolling
 pub mod Walks

@@ -4,3 +4,4 @@ pub mod Listing
 pub mod Masks
 pub mod Registers
 pub mod Walk
+pub mod Worked

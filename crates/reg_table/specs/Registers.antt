@@ -1,7 +1,7 @@
 -- The register table of a description: one row for each member of each register, in document order, where an array
 -- member with its content precedes the next member. It speaks of flat rows (CMSIS-SVD 1.3 gives the properties; the
 -- order and the cut reset word are this project's own).
-use Rattle.std.specs.Prelude.{◌≡◌, ℕ, ◌%◌, ◌^◌, Bool, cond, List, [], ◌∷◌, map, filter, fold, length, reverse, drop, set, Option, None, Some, is_some, unwrap_or, bit_and}
+use Rattle.std.specs.Prelude.{ℕ, ◌%◌, ◌^◌, Bool, cond, List, [], ◌∷◌, map, filter, fold, length, reverse, drop, set, Option, None, Some, is_some, unwrap_or, bit_and}
 use Rattle.std.specs.List.{flat_map, zip, range_with_len}
 use Rattle.pac_base.specs.Widths.{bits_of}
 use Rattle.reg_table.specs.Calls.{parts}
@@ -102,7 +102,3 @@ rows_of_member visit indexes =
 -- the register table of a description's flat rows
 unfoldable pub table_of : List (Row Step Key) → List TableRow
 table_of all = flat_map (λ member. rows_of_member (visit_at all member.0) member.1) (members_in_order all)
-
--- the description holds no array
-abbrev pub HasNoArray : List (Row Step Key) → Type 0
-HasNoArray all = array_paths all ≡ []

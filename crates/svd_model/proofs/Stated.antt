@@ -8,9 +8,9 @@ use Rattle.svd_model.specs.declared.device.Register.{Register}
 use Rattle.svd_model.specs.declared.device.Values.{Values}
 use Rattle.svd_model.specs.declared.device.Variant.{Variant}
 use Rattle.svd_model.specs.declared.props.Props.{Props}
-use Rattle.svd_model.specs.Keys.{Key, rank, dim_count, base_address, at_offset, bit_width, register_size, register_access, reset_value, reset_mask, write_kind, value_usage, enumerated_value}
+use Rattle.svd_model.specs.Keys.{Key, rank, dim_count, dim_increment, base_address, at_offset, bit_width, register_size, register_access, reset_value, reset_mask, write_kind, value_usage, enumerated_value}
 use Rattle.svd_model.specs.Properties.{nearest}
-use Rattle.svd_model.specs.Stating.{value_of, stated_size, stated_access, stated_reset, stated_mask, stated_kind, stated_base, stated_offset, stated_width, stated_dim, stated_usage, stated_number}
+use Rattle.svd_model.specs.Stating.{value_of, stated_size, stated_access, stated_reset, stated_mask, stated_kind, stated_base, stated_offset, stated_width, stated_dim, stated_increment, stated_usage, stated_number}
 use Rattle.svd_model.specs.Trees.{device_places, peripheral_places, cluster_places, register_places, field_places, set_places, value_places}
 use Rattle.svd_model.proofs.Placed.{device-placed, peripheral-placed, cluster-placed, register-placed, field-placed, set-placed, value-placed}
 use Rattle.svd_rows.specs.Ranks.{IsPlaced, stated}
@@ -103,6 +103,11 @@ other-dim : (key : Key) → (rank key ≡ 2 → ⊥) → stated_dim key ≡ None
 unfolding rank
 other-dim (dim_count n) h = absurd (h refl)
 other-dim _ h = refl
+
+other-increment : (key : Key) → (rank key ≡ 3 → ⊥) → stated_increment key ≡ None
+unfolding rank
+other-increment (dim_increment n) h = absurd (h refl)
+other-increment _ h = refl
 
 other-usage : (key : Key) → (rank key ≡ 16 → ⊥) → stated_usage key ≡ None
 unfolding rank
@@ -220,3 +225,21 @@ field-size e = found stated_size 10 other-size (field_places e) (field-placed e)
 pub device-dim : (e : Device) → value_of stated_dim (stated (device_places e)) ≡ None
 unfolding device_places
 device-dim e = found stated_dim 2 other-dim (device_places e) (device-placed e)
+
+-- ---- dimensions
+
+pub cluster-dim : {A B C : Type 0} (e : Cluster-F A B C) → value_of stated_dim (stated (cluster_places e)) ≡ e.dim.count
+unfolding cluster_places
+cluster-dim e = found stated_dim 2 other-dim (cluster_places e) (cluster-placed e) ∙ stated_back dim_count stated_dim (λ _. refl) e.dim.count
+
+pub cluster-increment : {A B C : Type 0} (e : Cluster-F A B C) → value_of stated_increment (stated (cluster_places e)) ≡ e.dim.step
+unfolding cluster_places
+cluster-increment e = found stated_increment 3 other-increment (cluster_places e) (cluster-placed e) ∙ stated_back dim_increment stated_increment (λ _. refl) e.dim.step
+
+pub register-dim : (e : Register) → value_of stated_dim (stated (register_places e)) ≡ e.dim.count
+unfolding register_places
+register-dim e = found stated_dim 2 other-dim (register_places e) (register-placed e) ∙ stated_back dim_count stated_dim (λ _. refl) e.dim.count
+
+pub register-increment : (e : Register) → value_of stated_increment (stated (register_places e)) ≡ e.dim.step
+unfolding register_places
+register-increment e = found stated_increment 3 other-increment (register_places e) (register-placed e) ∙ stated_back dim_increment stated_increment (λ _. refl) e.dim.step

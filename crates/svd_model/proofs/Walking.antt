@@ -66,7 +66,7 @@ inside-down s q (row ∷ all) = at row.path row.said (inside-down s q all)
 
 -- ---- the paths
 
-paths-append : (xs ys : List (Row Step Key)) → paths_of (xs ++ ys) ≡ paths_of xs ++ paths_of ys
+pub paths-append : (xs ys : List (Row Step Key)) → paths_of (xs ++ ys) ≡ paths_of xs ++ paths_of ys
 unfolding paths_of
 paths-append xs ys = ap (map (λ row. row.path)) (filter-append is_element xs ys) ∙ map-append (λ row. row.path) (filter is_element xs) (filter is_element ys)
 
@@ -77,7 +77,7 @@ paths-under s xs =
     ∙ map-map (λ row. row.path) (under s) (filter is_element xs)
     ∙ sym (map-map (λ path. s ∷ path) (λ row. row.path) (filter is_element xs))
 
-paths-own : (keys : List Key) → paths_of (own keys) ≡ [] ∷ []
+pub paths-own : (keys : List Key) → paths_of (own keys) ≡ [] ∷ []
 unfolding paths_of own is_element
 paths-own keys = ap (λ r. [] ∷ map (λ (row : Row Step Key). row.path) r) (none keys)
   where
@@ -85,14 +85,14 @@ paths-own keys = ap (λ r. [] ∷ map (λ (row : Row Step Key). row.path) r) (no
     none [] = refl
     none (key ∷ keys) = none keys
 
-paths-node : (s : Step) (ks : List Key) (c n : Forest Step Key) → paths_of (forest_rows (node s ks c n)) ≡ (s ∷ []) ∷ (map (λ path. s ∷ path) (paths_of (forest_rows c)) ++ paths_of (forest_rows n))
+pub paths-node : (s : Step) (ks : List Key) (c n : Forest Step Key) → paths_of (forest_rows (node s ks c n)) ≡ (s ∷ []) ∷ (map (λ path. s ∷ path) (paths_of (forest_rows c)) ++ paths_of (forest_rows n))
 unfolding forest_rows
 paths-node s ks c n =
     paths-append (map (under s) (own ks ++ forest_rows c)) (forest_rows n)
     ∙ ap (λ r. r ++ paths_of (forest_rows n))
     (paths-under s (own ks ++ forest_rows c) ∙ ap (map (λ path. s ∷ path)) (paths-append (own ks) (forest_rows c) ∙ ap (λ r. r ++ paths_of (forest_rows c)) (paths-own ks)))
 
-no_paths : paths_of (forest_rows leaf) ≡ []
+pub no_paths : paths_of (forest_rows leaf) ≡ []
 unfolding paths_of forest_rows
 no_paths = refl
 

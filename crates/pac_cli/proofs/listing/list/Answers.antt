@@ -32,5 +32,5 @@ returns g c =
     (paper (g.S.Sink.written c.args.out.now) (g.S.Sink.faults c.args.out.now))
     (paper (g.S.Sink.written c.write_listing.new.out) (g.S.Sink.faults c.write_listing.new.out))
     c.write_listing.result c.in_ok-bytes.ensures
-    (subst (λ (bytes : List ℕ). ComeTo bytes (checked c.in_ok-state.state)) c.as_slice.ensures c.in_ok-state.ensures.0)
+    (subst (λ (bytes : List ℕ). ComeTo bytes (checked c.in_ok-state.state)) c.as_slice.ensures c.in_ok-state.ensures)
     c.write_listing.ensures

@@ -3,14 +3,14 @@ use Rattle.std.proofs.Common.{List, ◌++◌, ◌∷◌, [], map, sym, ap, ap₂
 use Rattle.std.specs.Prelude.{All}
 use Rattle.std.proofs.lemmas.List.Elements.{All-nil}
 use Rattle.reg_table.specs.Listing.{IsListed}
-use Rattle.reg_table.specs.Registers.{HasNoArray, table_of}
+use Rattle.reg_table.specs.Registers.{table_of}
 use Rattle.reg_table.specs.Walk.{FitIn, rows_in, rows_of_peripherals, peripheral_path}
 use Rattle.svd_model.specs.declared.device.Peripheral.{Peripheral}
 use Rattle.svd_model.specs.declared.sibling.Sibling.{Sibling}
 use Rattle.svd_model.specs.Properties.{holding}
 use Rattle.svd_model.specs.Trees.{peripheral_under, item_under, device_tree}
 use Rattle.svd_rows.specs.Forest.{siblings}
-use Rattle.reg_table.proofs.Faults.{checked-fits, distinct-steps}
+use Rattle.reg_table.proofs.Faults.{checked-fits}
 use Rattle.reg_table.proofs.Tables.{table-rows}
 use Rattle.reg_table.proofs.Walks.{fit-peripheral, rows-peripheral, rows-no_peripherals, fit-others}
 use Rattle.reg_table.proofs.table_rows.table.Goals as goal
@@ -53,10 +53,10 @@ loop-key-preserved c =
 
 pub returns-clause-rows : goal.returns-clause-rows
 unfolding device_tree
-returns-clause-rows c = λ none.
+returns-clause-rows c =
     sym (append-nil c.loop-key.table)
     ∙ ap (λ r. c.loop-key.table ++ r) (sym (rows-no_peripherals c.device-device.result.now.props))
     ∙ sym (ap (λ entries. c.loop-key.table ++ rows_of_peripherals c.device-device.result.now.props (siblings (map peripheral_under entries))) c.in-None.ensures.steps.0)
     ∙ c.loop-key.invariant.rows
-    ∙ sym (table-rows c.device-device.result.now (distinct-steps c.device-device.result.now c.device-device.ensures.fact) (subst HasNoArray (sym c.device-device.ensures.rows) none))
+    ∙ sym (table-rows c.device-device.result.now c.device-device.ensures.fact.unfolded)
     ∙ ap table_of c.device-device.ensures.rows
