@@ -1,0 +1,9 @@
+pub mod Placing
+pub mod Words
+pub mod Lists
+pub mod Leading
+pub mod Chains
+pub mod Attained
+pub mod Rules
+pub mod Events
+pub mod Walking

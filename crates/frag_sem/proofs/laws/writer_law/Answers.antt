@@ -1,0 +1,17 @@
+use Rattle.frag_sem.proofs.Words.{writer_puts, written_stays, reads_written, start_is, start_plain}
+use Rattle.frag_sem.proofs.laws.writer_law.Goals as goal
+
+pub returns-clause-puts : goal.returns-clause-puts
+returns-clause-puts c = writer_puts
+
+pub returns-clause-stays : goal.returns-clause-stays
+returns-clause-stays c = written_stays
+
+pub returns-clause-reads : goal.returns-clause-reads
+returns-clause-reads c = reads_written
+
+pub returns-clause-start : goal.returns-clause-start
+returns-clause-start c = start_is
+
+pub returns-clause-without_masks : goal.returns-clause-without_masks
+returns-clause-without_masks c = start_plain

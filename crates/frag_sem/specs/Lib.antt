@@ -1,0 +1,16 @@
+pub mod Modules
+pub mod Layout
+pub mod PreludeCalls
+pub mod ProxyTypes
+pub mod CallPlaces
+pub mod CrateTyping
+pub mod AddressEnds
+pub mod Surfaces
+pub mod TextSurface
+pub mod ScriptTyping
+pub mod PlaceTyping
+pub mod PreludeWords
+pub mod TextMeaning
+pub mod TextPresets
+pub mod Worked
+pub mod Laws

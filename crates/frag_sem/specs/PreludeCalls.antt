@@ -1,0 +1,35 @@
+-- The calls of the prelude `crate::generic` of a crate text (this project's own, after the register API that svd2rust documents).
+use Rattle.std.specs.Prelude.{ℕ, Bool, true, false, List, [], ◌∷◌, codes}
+use Rattle.std.specs.List.{list_any}
+use Rattle.std.specs.Str.{bytes_eq}
+use Rattle.frag_tree.specs.declared.register.BitKind.{BitKind}
+use Rattle.frag_tree.specs.declared.register.BitKind.TheVariants as kind
+use Rattle.frag_tree.specs.declared.register.TruthCall.{TruthCall}
+
+-- the names that the prelude takes
+abbrev pub prelude_names : List (List ℕ)
+prelude_names =
+    codes "at" ∷ codes "at_index" ∷ codes "bit" ∷ codes "bit_is_clear" ∷ codes "bit_is_set" ∷
+    codes "bits" ∷ codes "clear_bit" ∷ codes "clear_bit_by_one" ∷ codes "generic" ∷
+    codes "modify" ∷ codes "new" ∷ codes "read" ∷ codes "reset" ∷ codes "set_bit" ∷
+    codes "set_bit_by_zero" ∷ codes "toggle_bit" ∷ codes "write" ∷ codes "write_with_zero" ∷ []
+
+unfoldable pub is_prelude_name : List ℕ → Bool
+is_prelude_name name = list_any (bytes_eq name) prelude_names
+
+abbrev pub truth_call : List ℕ → Bool → TruthCall
+truth_call name value = record { name = name; value = value }
+
+-- the calls of `BitReader` that compare the bit, beside `bit`, which gives it
+abbrev pub bit_tests : List TruthCall
+bit_tests = truth_call (codes "bit_is_set") true ∷ truth_call (codes "bit_is_clear") false ∷ []
+
+-- the calls of a bit's writer that write what they say, beside `bit`, which takes what it writes
+abbrev pub bit_writes : BitKind → List TruthCall
+bit_writes kind.Plain = truth_call (codes "set_bit") true ∷ truth_call (codes "clear_bit") false ∷ []
+bit_writes kind.OneToSet = truth_call (codes "set_bit") true ∷ []
+bit_writes kind.ZeroToClear = truth_call (codes "clear_bit") false ∷ []
+bit_writes kind.OneToClear = truth_call (codes "clear_bit_by_one") true ∷ []
+bit_writes kind.ZeroToSet = truth_call (codes "set_bit_by_zero") false ∷ []
+bit_writes kind.OneToToggle = truth_call (codes "toggle_bit") true ∷ []
+bit_writes kind.ZeroToToggle = truth_call (codes "toggle_bit") false ∷ []

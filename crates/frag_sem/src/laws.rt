@@ -1,0 +1,52 @@
+// The laws of layouts and of the words that readers and writers make.
+ghost use Rattle.frag_sem.specs.Laws.{BitReaderGets, CallsAreThere, CallsByModules, EndsDecide, EventsAreFew, EventsInRange, FieldsAligned, FieldsApart, FitsByTests, PlaceBehindEnd, PlaceBehindGap, PlacesAreRegisters, PresetsInRange, ReaderGets, ReadsAreAnswered, ReadsWritten, RefusedByTests, StartWithoutMasks, StartWordIsStart, WriterPuts, WrittenStays};
+
+/// Where the fields of a struct stand: behind a gap that ends at a multiple of the alignment, there; and
+/// no two of them share a byte.
+pub fn layout_law()
+    ensures behind_gap { PlaceBehindGap }
+    ensures behind_end { PlaceBehindEnd }
+    ensures apart { FieldsApart }
+    ensures aligned { FieldsAligned }
+{}
+
+/// A reader of a crate text gives what stands at its place.
+pub fn reader_law()
+    ensures field { ReaderGets }
+    ensures bit { BitReaderGets }
+{}
+
+/// A writer of a crate text puts its value at its place, and the word from which a write starts is that
+/// of the masks.
+pub fn writer_law()
+    ensures puts { WriterPuts }
+    ensures stays { WrittenStays }
+    ensures reads { ReadsWritten }
+    ensures start { StartWordIsStart }
+    ensures without_masks { StartWithoutMasks }
+{}
+
+/// The tests of the typing rules decide whether a crate fits, and with which kind it is refused; the
+/// greatest end in each block decides whether all its registers are in the address range.
+pub fn typing_law()
+    ensures fits { FitsByTests }
+    ensures refused { RefusedByTests }
+    ensures ends { EndsDecide }
+{}
+
+/// Each read of a script has the next answer. The events of a script and the presets before it are accesses
+/// below 2^64 of values of their width, and there are at most two events for each statement.
+pub fn meaning_law()
+    ensures places { PlacesAreRegisters }
+    ensures answers { ReadsAreAnswered }
+    ensures events { EventsInRange }
+    ensures few { EventsAreFew }
+    ensures presets { PresetsInRange }
+{}
+
+/// What the surface of a crate says of a register call is what its modules say, found by walking them; and
+/// a call that types is one of the register at the place.
+pub fn surface_law()
+    ensures modules { CallsByModules }
+    ensures there { CallsAreThere }
+{}
