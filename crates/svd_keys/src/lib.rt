@@ -23,5 +23,5 @@ mod written;
 pub use fault::{BadKind, Fault, PlacedFault, Required, earlier};
 pub use keys::{Keys, Stated};
 pub use law::{forms_law, least_law};
-pub use stated::read_keys;
+pub use stated::{own_keys, read_keys};
 pub use written::{Written, is_reserved_name, sibling_name, written_name};

@@ -6,7 +6,7 @@ ghost use Rattle.svd_text.specs.Views.{element_of};
 
 use crate::child::unknown_in;
 use crate::fault::earliest;
-use crate::keys::Stated;
+use crate::keys::{Keys, Stated};
 use crate::missing::missing_fault;
 use crate::row::{
     cluster_keys, device_keys, field_keys, no_keys, peripheral_keys, register_keys, set_keys,
@@ -64,4 +64,12 @@ pub fn read_keys(alloc: Global, container: Container, element: &Element) -> Resu
         keys: stated.keys,
         fault,
     })
+}
+
+/// What an element of a description states that is this container, whatever is at fault in it.
+pub fn own_keys(alloc: Global, container: Container, element: &Element) -> Result<Keys, NoMemory>
+    ensures { IfOk result (λ keys. keys ≡ keys_of container (element_of element.now)) }
+{
+    let stated = row_keys(alloc, container, element)?;
+    Ok(stated.keys)
 }

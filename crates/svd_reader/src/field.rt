@@ -6,12 +6,11 @@ ghost use Rattle.svd_text.specs.Views.{element_of};
 
 use crate::element::is_named;
 use crate::kept::keep_under;
-use crate::keys::own_keys;
 use crate::values::sets;
 use indexmap::IndexMap;
 use pac_base::NoMemory;
 use std::alloc::Global;
-use svd_keys::{Keys, is_reserved_name};
+use svd_keys::{Keys, is_reserved_name, own_keys};
 use svd_model::{Field, Sibling};
 use svd_schema::Container;
 use svd_text::Element;

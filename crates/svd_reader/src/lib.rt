@@ -9,7 +9,6 @@ mod fault;
 mod field;
 mod first_fault;
 mod kept;
-mod keys;
 mod peripheral;
 mod reader;
 mod register;

@@ -8,12 +8,11 @@ ghost use Rattle.svd_text.specs.Views.{element_of};
 
 use crate::element::{inside, is_named};
 use crate::kept::keep_under;
-use crate::keys::own_keys;
 use crate::register::children;
 use indexmap::IndexMap;
 use pac_base::{NoMemory, Text};
 use std::alloc::Global;
-use svd_keys::Keys;
+use svd_keys::{Keys, own_keys};
 use svd_model::{Device, Peripheral, Sibling};
 use svd_schema::Container;
 use svd_text::Element;

@@ -6,10 +6,9 @@ ghost use Rattle.svd_text.specs.Views.{element_of};
 
 use crate::element::is_named;
 use crate::kept::keep;
-use crate::keys::own_keys;
 use pac_base::NoMemory;
 use std::alloc::Global;
-use svd_keys::Keys;
+use svd_keys::{Keys, own_keys};
 use svd_model::{Values, Variant};
 use svd_schema::Container;
 use svd_text::Element;
