@@ -10,7 +10,7 @@ use Rattle.pac_cli.specs.Commands.{command_of}
 use Rattle.pac_cli.specs.declared.command.Command.{Command}
 use Rattle.pac_cli.specs.declared.command.Command.TheVariants.{Listing}
 use Rattle.pac_cli.specs.declared.fault.PacFault.{PacFault}
-use Rattle.pac_cli.specs.declared.fault.PacFault.TheVariants.{Memory, Words, Read, Write, Svd, Unbuilt, Check, Limit}
+use Rattle.pac_cli.specs.declared.fault.PacFault.TheVariants.{Memory, Words, Read, Write, Svd, Unbuilt, Dim, Check, Limit}
 
 -- no bytes of a description have two answers
 abbrev pub OneReading : Type 0
@@ -73,6 +73,7 @@ decided read words old new (Some (Read name)) h = told_any _ old.files (λ files
 decided read words old new (Some Write) h = told_any _ old.files (λ files answer is no_read no_write. absurd (no_write h.rose))
 decided read words old new (Some (Svd fault)) h = told_answer _ _ old.files h.decided (λ files known answer is no_read no_write. comes_refused answer known.0 (Svd fault) (one_answer_lem read words files answer (refused known.0) is known.1) known.2)
 decided read words old new (Some (Unbuilt path)) h = told_answer _ _ old.files h.decided (λ files known answer is no_read no_write. comes_refused answer known.0 (Unbuilt path) (one_answer_lem read words files answer (refused known.0) is known.1) known.2)
+decided read words old new (Some (Dim fault)) h = told_answer _ _ old.files h.decided (λ files known answer is no_read no_write. comes_refused answer known.0 (Dim fault) (one_answer_lem read words files answer (refused known.0) is known.1) known.2)
 decided read words old new (Some (Check fault)) h = told_answer _ _ old.files h.decided (λ files known answer is no_read no_write. comes_refused answer known.0 (Check fault) (one_answer_lem read words files answer (refused known.0) is known.1) known.2)
 decided read words old new (Some (Limit fault)) h = told_answer _ _ old.files h.decided (λ files known answer is no_read no_write. comes_refused answer known.0 (Limit fault) (one_answer_lem read words files answer (refused known.0) is known.1) known.2)
 
@@ -90,6 +91,7 @@ accepted words old new (Some (Read name)) h = told_any _ old.files (λ files fre
 accepted words old new (Some Write) h = told_any _ old.files (λ files free no_read no_write. absurd (no_write h.rose))
 accepted words old new (Some (Svd fault)) h = told_answer _ _ old.files h.decided (λ files known free no_read no_write. absurd (free known.0 known.1))
 accepted words old new (Some (Unbuilt path)) h = told_answer _ _ old.files h.decided (λ files known free no_read no_write. absurd (free known.0 known.1))
+accepted words old new (Some (Dim fault)) h = told_answer _ _ old.files h.decided (λ files known free no_read no_write. absurd (free known.0 known.1))
 accepted words old new (Some (Check fault)) h = told_answer _ _ old.files h.decided (λ files known free no_read no_write. absurd (free known.0 known.1))
 accepted words old new (Some (Limit fault)) h = told_answer _ _ old.files h.decided (λ files known free no_read no_write. absurd (free known.0 known.1))
 

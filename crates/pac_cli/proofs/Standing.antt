@@ -18,7 +18,7 @@ use Rattle.pac_cli.specs.Stages.{Shelf, Paper, HasRead, ReadFault, LacksMemoryTo
 use Rattle.pac_cli.specs.declared.command.Command.{Command}
 use Rattle.pac_cli.specs.declared.command.Command.TheVariants.{Listing}
 use Rattle.pac_cli.specs.declared.fault.PacFault.{PacFault}
-use Rattle.pac_cli.specs.declared.fault.PacFault.TheVariants.{Memory, Words, Read, Write, Svd, Unbuilt, Check, Limit}
+use Rattle.pac_cli.specs.declared.fault.PacFault.TheVariants.{Memory, Words, Read, Write, Svd, Unbuilt, Dim, Check, Limit}
 use Rattle.pac_cli.specs.declared.fault.LimitFault.{LimitFault}
 use Rattle.pac_cli.specs.declared.fault.LimitFault.TheVariants.{FileTooLong}
 
@@ -98,6 +98,7 @@ not_read svd old new paper (Read name) h = λ words taken. record {
 not_read svd old new paper Write h = absurd h
 not_read svd old new paper (Svd fault) h = absurd h
 not_read svd old new paper (Unbuilt path) h = absurd h
+not_read svd old new paper (Dim fault) h = absurd h
 not_read svd old new paper (Check fault) h = absurd h
 not_read svd old new paper (Limit fault) h = λ words taken. record {
   command = Listing svd;
@@ -148,6 +149,7 @@ not_resolved svd bytes old new paper (Read name) r h = absurd h
 not_resolved svd bytes old new paper Write r h = absurd h
 not_resolved svd bytes old new paper (Svd fault) r h = λ words taken. refused_by svd bytes old new paper (Svd fault) words taken r h
 not_resolved svd bytes old new paper (Unbuilt path) r h = λ words taken. refused_by svd bytes old new paper (Unbuilt path) words taken r h
+not_resolved svd bytes old new paper (Dim fault) r h = λ words taken. refused_by svd bytes old new paper (Dim fault) words taken r h
 not_resolved svd bytes old new paper (Check fault) r h = λ words taken. refused_by svd bytes old new paper (Check fault) words taken r h
 not_resolved svd bytes old new paper (Limit fault) r h = λ words taken. refused_by svd bytes old new paper (Limit fault) words taken r h
 
@@ -189,6 +191,7 @@ written svd bytes rows old new paper later (Err Write) r d h = λ words taken. r
 }
 written svd bytes rows old new paper later (Err (Svd fault)) r d h = absurd h
 written svd bytes rows old new paper later (Err (Unbuilt path)) r d h = absurd h
+written svd bytes rows old new paper later (Err (Dim fault)) r d h = absurd h
 written svd bytes rows old new paper later (Err (Check fault)) r d h = absurd h
 written svd bytes rows old new paper later (Err (Limit fault)) r d h = absurd h
 
@@ -224,6 +227,7 @@ not_commanded words now (Read name) h = absurd h
 not_commanded words now Write h = absurd h
 not_commanded words now (Svd fault) h = absurd h
 not_commanded words now (Unbuilt path) h = absurd h
+not_commanded words now (Dim fault) h = absurd h
 not_commanded words now (Check fault) h = absurd h
 not_commanded words now (Limit fault) h = absurd h
 

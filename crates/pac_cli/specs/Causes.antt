@@ -10,7 +10,7 @@ use Rattle.pac_cli.specs.Resolving.{Cause}
 use Rattle.pac_cli.specs.Showing.{Shows, IsShown}
 use Rattle.pac_cli.specs.declared.command.Command.{Command}
 use Rattle.pac_cli.specs.declared.fault.PacFault.{PacFault}
-use Rattle.pac_cli.specs.declared.fault.PacFault.TheVariants.{Memory, Words, Read, Write, Svd, Unbuilt, Check, Limit}
+use Rattle.pac_cli.specs.declared.fault.PacFault.TheVariants.{Memory, Words, Read, Write, Svd, Unbuilt, Dim, Check, Limit}
 use Rattle.pac_cli.specs.declared.fault.WordsFault.{WordsFault}
 use Rattle.pac_cli.specs.declared.fault.WordsFault.TheVariants.{Clap}
 
@@ -105,6 +105,7 @@ StandsAt words old new (Read name) = FailsToRead words old new name
 StandsAt words old new Write = FailsToWrite words old new
 StandsAt words old new (Svd fault) = RefusesInput words old new (Svd fault)
 StandsAt words old new (Unbuilt path) = RefusesInput words old new (Unbuilt path)
+StandsAt words old new (Dim fault) = RefusesInput words old new (Dim fault)
 StandsAt words old new (Check fault) = RefusesInput words old new (Check fault)
 StandsAt words old new (Limit fault) = RefusesInput words old new (Limit fault)
 
@@ -125,6 +126,7 @@ status_at (Read name) = 3
 status_at Write = 4
 status_at (Svd fault) = 6
 status_at (Unbuilt path) = 8
+status_at (Dim fault) = 8
 status_at (Check fault) = 8
 status_at (Limit fault) = 11
 

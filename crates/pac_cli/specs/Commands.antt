@@ -5,7 +5,7 @@ use Rattle.std.specs.List.{starts_with}
 use Rattle.pac_cli.specs.declared.command.Command.{Command}
 use Rattle.pac_cli.specs.declared.command.Command.TheVariants.{Listing}
 use Rattle.pac_cli.specs.declared.fault.PacFault.{PacFault}
-use Rattle.pac_cli.specs.declared.fault.PacFault.TheVariants.{Memory, Words, Read, Write, Svd, Unbuilt, Check, Limit}
+use Rattle.pac_cli.specs.declared.fault.PacFault.TheVariants.{Memory, Words, Read, Write, Svd, Unbuilt, Dim, Check, Limit}
 use Rattle.pac_cli.specs.declared.fault.WordsFault.TheVariants.{Clap}
 
 -- a word that begins with `-` names no file
@@ -30,6 +30,7 @@ CommandsFault words (Read name) = ⊥
 CommandsFault words Write = ⊥
 CommandsFault words (Svd fault) = ⊥
 CommandsFault words (Unbuilt path) = ⊥
+CommandsFault words (Dim fault) = ⊥
 CommandsFault words (Check fault) = ⊥
 CommandsFault words (Limit fault) = ⊥
 

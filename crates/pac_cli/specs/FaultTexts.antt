@@ -3,6 +3,8 @@ use Rattle.std.specs.Prelude.{ℕ, List, [], ◌∷◌, ◌++◌, codes, decimal
 use Rattle.std.specs.List.{flat_map}
 use Rattle.pac_base.specs.declared.path.Step.{Step}
 use Rattle.pac_base.specs.declared.span.Span.{Span}
+use Rattle.dim_expand.specs.declared.fault.DimFault.{DimFault}
+use Rattle.dim_expand.specs.declared.fault.DimFault.TheVariants as dim
 use Rattle.overlap_check.specs.declared.fault.CheckFault.{CheckFault}
 use Rattle.overlap_check.specs.declared.fault.CheckFault.TheVariants as check
 use Rattle.svd_keys.specs.declared.fault.BadKind.{BadKind}
@@ -12,7 +14,7 @@ use Rattle.svd_model.specs.declared.counted.Counted.TheVariants as counted
 use Rattle.svd_reader.specs.declared.fault.SvdFault.{SvdFault}
 use Rattle.svd_reader.specs.declared.fault.SvdFault.TheVariants as svd
 use Rattle.pac_cli.specs.declared.fault.PacFault.{PacFault}
-use Rattle.pac_cli.specs.declared.fault.PacFault.TheVariants.{Memory, Words, Read, Write, Svd, Unbuilt, Check, Limit}
+use Rattle.pac_cli.specs.declared.fault.PacFault.TheVariants.{Memory, Words, Read, Write, Svd, Unbuilt, Dim, Check, Limit}
 use Rattle.pac_cli.specs.declared.fault.WordsFault.{WordsFault}
 use Rattle.pac_cli.specs.declared.fault.WordsFault.TheVariants.{Clap}
 use Rattle.pac_cli.specs.declared.fault.LimitFault.{LimitFault}
@@ -89,6 +91,14 @@ check_text (check.FieldRange path) = at_path path (codes ": field passes the reg
 check_text (check.NameClash first second) = path_text first ++ (codes " and " ++ at_path second (codes " have one accessor name"))
 check_text check.Memory = codes "out of memory"
 
+unfoldable pub dim_text : DimFault → List ℕ
+dim_text (dim.DimZero path) = at_path path (codes ": dim is 0")
+dim_text (dim.DimTooLong path members) = at_path path (codes ": dim passes 65536")
+dim_text (dim.DimNoMark path) = at_path path (codes ": dim and %s must stand together")
+dim_text (dim.DimIndexCount path members given) = path_text path ++ (codes ": dim is " ++ (decimal members ++ (codes " and dimIndex gives " ++ decimal given)))
+dim_text (dim.TooMany kind count) = many_text kind count
+dim_text dim.Memory = codes "out of memory"
+
 unfoldable pub limit_text : LimitFault → List ℕ
 limit_text (FileTooLong name limit) = name ++ (codes " is longer than " ++ (decimal limit ++ codes " bytes"))
 limit_text (TooMany kind count) = many_text kind count
@@ -100,6 +110,7 @@ text_of (Read name) = codes "cannot read " ++ name
 text_of Write = codes "cannot write"
 text_of (Svd fault) = svd_text fault
 text_of (Unbuilt path) = at_path path (codes ": not built yet")
+text_of (Dim fault) = dim_text fault
 text_of (Check fault) = check_text fault
 text_of (Limit fault) = limit_text fault
 

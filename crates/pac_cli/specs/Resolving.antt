@@ -2,11 +2,14 @@
 -- the rows that they leave. This project's own order.
 use Rattle.std.specs.Prelude.{◌≡◌, ℕ, List, [], ◌∷◌, Option, Some, None}
 use Rattle.pac_base.specs.declared.path.Step.{Step as NamedStep}
+use Rattle.dim_expand.specs.declared.fault.DimFault.{DimFault}
+use Rattle.dim_expand.specs.Faults.{first_fault}
+use Rattle.dim_expand.specs.Unfolding.{unfolded_rows}
 use Rattle.overlap_check.specs.Told.{first_of}
 use Rattle.svd_model.specs.Checking.{Fault, loose_faults}
 use Rattle.svd_model.specs.Keys.{Key}
 use Rattle.svd_model.specs.Steps.{Step}
-use Rattle.svd_model.specs.Unbuilt.{first_source, first_dimension}
+use Rattle.svd_model.specs.Unbuilt.{first_source}
 use Rattle.svd_reader.specs.Described.{Answer as Reading, no_text, too_deep, at_fault, too_many, described, HasAnswer}
 use Rattle.svd_rows.specs.Rows.{Row}
 
@@ -16,6 +19,7 @@ pub data Cause : Type 0 where
   file_too_long : (name : List ℕ) → (limit : ℕ) → Cause
   not_described : Reading → Cause
   unbuilt : (path : List NamedStep) → Cause
+  not_unfolded : DimFault → Cause
   fails_check : Fault → Cause
 
 -- what a description comes to
@@ -27,15 +31,15 @@ abbrev pub by_check : Option Fault → List (Row Step Key) → Resolution
 by_check (Some fault) all = stopped (fails_check fault)
 by_check None all = checked all
 
--- an element that has a dimension, or is a cluster, isn't served yet
-abbrev pub by_dimension : Option (List NamedStep) → List (Row Step Key) → Resolution
-by_dimension (Some path) all = stopped (unbuilt path)
-by_dimension None all = by_check (first_of (loose_faults all)) all
+-- each list is unfolded, or the first fault of a dimension or a count decides
+abbrev pub by_unfolding : Option DimFault → List (Row Step Key) → Resolution
+by_unfolding (Some fault) all = stopped (not_unfolded fault)
+by_unfolding None all = by_check (first_of (loose_faults (unfolded_rows all))) (unfolded_rows all)
 
 -- an element that is derived isn't served yet
 abbrev pub by_source : Option (List NamedStep) → List (Row Step Key) → Resolution
 by_source (Some path) all = stopped (unbuilt path)
-by_source None all = by_dimension (first_dimension all) all
+by_source None all = by_unfolding (first_fault all) all
 
 unfoldable pub resolution_of : Reading → Resolution
 resolution_of no_text = stopped (not_described no_text)

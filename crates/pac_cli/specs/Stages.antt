@@ -5,6 +5,10 @@ use Rattle.pac_io.specs.Asking.{and_asked}
 use Rattle.pac_io.specs.Rose.{Rose}
 use Rattle.pac_io.specs.Writing.{AppendsPrefix}
 use Rattle.pac_base.specs.declared.path.Step.{Step as NamedStep}
+use Rattle.dim_expand.specs.declared.fault.DimFault.{DimFault}
+use Rattle.dim_expand.specs.declared.fault.DimFault.TheVariants as dim
+use Rattle.dim_expand.specs.Faults.{first_fault}
+use Rattle.dim_expand.specs.Unfolding.{unfolded_rows}
 use Rattle.overlap_check.specs.Told.{first_of, told_fault}
 use Rattle.svd_model.specs.Checking.{Fault, loose_faults}
 use Rattle.svd_model.specs.Keys.{Key}
@@ -15,11 +19,11 @@ use Rattle.svd_reader.specs.Described.{Answer as Reading, too_many, described, H
 use Rattle.svd_rows.specs.Rows.{Row}
 use Rattle.pac_cli.specs.Answers.{FileMap, longest}
 use Rattle.pac_cli.specs.Resolving.{Cause, not_described, stopped, checked, ComeTo}
-use Rattle.pac_cli.specs.Showing.{Shows, TellsReading, ShowsLimit}
+use Rattle.pac_cli.specs.Showing.{Shows, TellsReading, ShowsRead}
 use Rattle.pac_cli.specs.declared.fault.PacFault.{PacFault}
-use Rattle.pac_cli.specs.declared.fault.PacFault.TheVariants.{Memory, Words, Read, Write, Svd, Unbuilt, Check, Limit}
+use Rattle.pac_cli.specs.declared.fault.PacFault.TheVariants.{Memory, Words, Read, Write, Svd, Unbuilt, Dim, Check, Limit}
 use Rattle.pac_cli.specs.declared.fault.LimitFault.{LimitFault}
-use Rattle.pac_cli.specs.declared.fault.LimitFault.TheVariants.{FileTooLong}
+use Rattle.pac_cli.specs.declared.fault.LimitFault.TheVariants.{FileTooLong, TooMany}
 
 -- what files tell at one moment
 pub record Shelf : Type 0 where
@@ -66,6 +70,7 @@ ReadFault name old new (Read told_name) = HasFailed name told_name old new
 ReadFault name old new Write = ⊥
 ReadFault name old new (Svd fault) = ⊥
 ReadFault name old new (Unbuilt path) = ⊥
+ReadFault name old new (Dim fault) = ⊥
 ReadFault name old new (Check fault) = ⊥
 ReadFault name old new (Limit fault) = IsTooLong name fault old new
 
@@ -94,7 +99,7 @@ Resolves bytes (Err fault) = ResolveFault bytes fault
 abbrev pub DescribeFault : List ℕ → PacFault → Type 0
 DescribeFault bytes Memory = Unit {0}
 DescribeFault bytes (Svd fault) = (reading : Reading) × HasAnswer bytes reading × TellsReading fault reading
-DescribeFault bytes (Limit fault) = (elements : ℕ) × HasAnswer bytes (too_many elements) × ShowsLimit fault (not_described (too_many elements))
+DescribeFault bytes (Limit fault) = (elements : ℕ) × HasAnswer bytes (too_many elements) × ShowsRead fault (not_described (too_many elements))
 DescribeFault bytes _ = ⊥
 
 -- reading the bytes of a description
@@ -117,6 +122,35 @@ passage_fault unbuilt.Memory = Memory
 abbrev pub Passes : Option (List NamedStep) → List (Row Step Key) → Result (List (Row Step Key)) PacFault → Type 0
 Passes first rows (Ok same) = (same ≡ rows) × (first ≡ None)
 Passes first rows (Err fault) = PassFault first fault
+
+-- a count that passes its limit
+abbrev pub UnfoldLimit : List (Row Step Key) → LimitFault → Type 0
+UnfoldLimit rows (FileTooLong name limit) = ⊥
+UnfoldLimit rows (TooMany kind count) = first_fault rows ≡ Some (dim.TooMany kind count)
+
+-- the dimension of an element is at fault
+abbrev pub UnfoldDim : List (Row Step Key) → DimFault → Type 0
+UnfoldDim rows (dim.TooMany kind count) = ⊥
+UnfoldDim rows dim.Memory = ⊥
+UnfoldDim rows fault = first_fault rows ≡ Some fault
+
+-- the rows aren't unfolded
+abbrev pub UnfoldFault : List (Row Step Key) → PacFault → Type 0
+UnfoldFault rows Memory = Unit {0}
+UnfoldFault rows (Dim fault) = UnfoldDim rows fault
+UnfoldFault rows (Limit fault) = UnfoldLimit rows fault
+UnfoldFault rows _ = ⊥
+
+-- the fault of unfolding as that of the call
+abbrev pub unfolding_fault : DimFault → PacFault
+unfolding_fault (dim.TooMany kind count) = Limit (TooMany kind count)
+unfolding_fault dim.Memory = Memory
+unfolding_fault fault = Dim fault
+
+-- each list of the rows is unfolded
+abbrev pub Unfolds : List (Row Step Key) → Result (List (Row Step Key)) PacFault → Type 0
+Unfolds rows (Ok made) = (made ≡ unfolded_rows rows) × (first_fault rows ≡ None)
+Unfolds rows (Err fault) = UnfoldFault rows fault
 
 -- the rows are at fault as a whole
 abbrev pub CheckedFault : List (Row Step Key) → PacFault → Type 0
@@ -159,6 +193,7 @@ WriteFault text old new (Read name) = ⊥
 WriteFault text old new Write = HasBrokenOff text old new
 WriteFault text old new (Svd fault) = ⊥
 WriteFault text old new (Unbuilt path) = ⊥
+WriteFault text old new (Dim fault) = ⊥
 WriteFault text old new (Check fault) = ⊥
 WriteFault text old new (Limit fault) = ⊥
 

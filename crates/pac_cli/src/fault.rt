@@ -1,3 +1,4 @@
+use dim_expand::DimFault;
 use overlap_check::CheckFault;
 use pac_base::{Path, Text};
 use svd_model::Counted;
@@ -25,12 +26,15 @@ pub enum PacFault {
     /// The description is refused. Status 6.
     #[error("{0}")]
     Svd(SvdFault),
-    /// An element can't be served yet: one that is derived, has a dimension, or is a cluster. Status 8.
+    /// An element can't be served yet: one that is derived. Status 8.
     #[error("an element is not built yet")]
     Unbuilt {
         /// The written names down to the first such element.
         path: Path,
     },
+    /// A dimension of the description is refused. Status 8.
+    #[error("{0}")]
+    Dim(DimFault),
     /// The description as a whole is refused. Status 8.
     #[error("{0}")]
     Check(CheckFault),

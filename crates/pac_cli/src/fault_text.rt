@@ -1,8 +1,9 @@
 ghost use Rattle.std.specs.Prelude.{◌≡◌, ◌++◌, OnOk, codes, decimal};
 ghost use Rattle.std.specs.List.{flat_map};
-ghost use Rattle.pac_cli.specs.FaultTexts.{at_path, bad_text, check_text, counted_text, index_text, limit_text, many_text, path_text, span_text, step_behind, step_text, svd_text, text_of, words_text};
+ghost use Rattle.pac_cli.specs.FaultTexts.{at_path, bad_text, check_text, counted_text, dim_text, index_text, limit_text, many_text, path_text, span_text, step_behind, step_text, svd_text, text_of, words_text};
 
 use crate::fault::{LimitFault, PacFault, WordsFault};
+use dim_expand::DimFault;
 use overlap_check::CheckFault;
 use pac_base::{NoMemory, Span, Step};
 use pac_io::Page;
@@ -22,6 +23,7 @@ pub(crate) fn push_text(page: &mut Page, fault: &PacFault) -> Result<(), NoMemor
         PacFault::Write => page.push(b"cannot write"),
         PacFault::Svd(fault) => push_svd(page, fault),
         PacFault::Unbuilt { path } => push_at(page, path.as_slice(), b": not built yet"),
+        PacFault::Dim(fault) => push_dim(page, fault),
         PacFault::Check(fault) => push_check(page, fault),
         PacFault::Limit(fault) => push_limit(page, fault),
     }
@@ -257,6 +259,37 @@ fn push_check(page: &mut Page, fault: &CheckFault) -> Result<(), NoMemory>
             second.as_slice(),
         ),
         CheckFault::Memory => page.push(b"out of memory"),
+    }
+}
+
+/// Appends a path, how many members its element has, and how many indexes.
+fn push_indexes(page: &mut Page, path: &[Step], members: u64, given: u64) -> Result<(), NoMemory>
+    ensures { OnOk result (page.new ≡ page.old ++ (path_text path.now ++ (codes ": dim is " ++ (decimal members ++ (codes " and dimIndex gives " ++ decimal given))))) }
+{
+    push_path(page, path)?;
+    page.push(b": dim is ")?;
+    page.decimal(members)?;
+    page.push(b" and dimIndex gives ")?;
+    page.decimal(given)
+}
+
+#[tactic(auto, unfolding(crate::specs::FaultTexts::dim_text))]
+fn push_dim(page: &mut Page, fault: &DimFault) -> Result<(), NoMemory>
+    ensures { OnOk result (page.new ≡ page.old ++ dim_text fault.now) }
+{
+    match fault {
+        DimFault::DimZero { path } => push_at(page, path.as_slice(), b": dim is 0"),
+        DimFault::DimTooLong { path, .. } => push_at(page, path.as_slice(), b": dim passes 65536"),
+        DimFault::DimNoMark { path } => push_at(
+            page,
+            path.as_slice(),
+            b": dim and %s must stand together",
+        ),
+        DimFault::DimIndexCount { path, dim, given } => {
+            push_indexes(page, path.as_slice(), *dim, *given)
+        }
+        DimFault::TooMany { kind, count } => push_many(page, *kind, *count),
+        DimFault::Memory => page.push(b"out of memory"),
     }
 }
 

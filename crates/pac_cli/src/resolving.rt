@@ -1,8 +1,9 @@
 ghost use Rattle.std.specs.Prelude.{◌≡◌, ◌≤◌, length};
-ghost use Rattle.svd_model.specs.Unbuilt.{first_dimension, first_source};
-ghost use Rattle.pac_cli.specs.Stages.{Checks, Describes, Passes, Resolves, passage_fault};
+ghost use Rattle.svd_model.specs.Unbuilt.{first_source};
+ghost use Rattle.pac_cli.specs.Stages.{Checks, Describes, Passes, Resolves, Unfolds, passage_fault, unfolding_fault};
 
 use crate::fault::{LimitFault, PacFault};
+use dim_expand::{DimFault, unfold};
 use overlap_check::{CheckFault, Policy, check};
 use std::alloc::Global;
 use svd_model::{Checked, Derived, Described, Patched, UnbuiltFault, Unfolded};
@@ -45,13 +46,23 @@ fn derived(alloc: Global, described: Described) -> Result<Derived, PacFault>
     }
 }
 
-/// The description in which nothing is to be unfolded.
+/// The description in which each list has become its members.
 fn unfolded(alloc: Global, derived: Derived) -> Result<Unfolded, PacFault>
-    ensures { Passes (first_dimension derived) derived result }
+    ensures { Unfolds derived result }
 {
-    match Unfolded::of(alloc, derived) {
+    match unfold(alloc, derived) {
         Ok(unfolded) => Ok(unfolded),
-        Err(back) => Err(not_built(back.fault)),
+        Err(back) => Err(not_unfolded(back.fault)),
+    }
+}
+
+fn not_unfolded(fault: DimFault) -> PacFault
+    ensures { result ≡ unfolding_fault fault }
+{
+    match fault {
+        DimFault::TooMany { kind, count } => PacFault::Limit(LimitFault::TooMany { kind, count }),
+        DimFault::Memory => PacFault::Memory,
+        fault => PacFault::Dim(fault),
     }
 }
 

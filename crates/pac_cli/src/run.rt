@@ -72,7 +72,7 @@ fn status_at(fault: &PacFault) -> u8
         PacFault::Read { .. } => 3,
         PacFault::Write => 4,
         PacFault::Svd(_) => 6,
-        PacFault::Unbuilt { .. } | PacFault::Check(_) => 8,
+        PacFault::Unbuilt { .. } | PacFault::Dim(_) | PacFault::Check(_) => 8,
         PacFault::Limit(_) => 11,
     }
 }

@@ -80,7 +80,7 @@ fn no_peripherals(rt: HostRuntime) -> Result<(), Fail> {
 }
 
 // Registers of `T`, and the lines that list them.
-const LISTED: [(&str, &str); 6] = [
+const LISTED: [(&str, &str); 9] = [
     // a 64-bit word that is one field
     (
         "<register><name>L</name><addressOffset>0</addressOffset><size>64</size><fields><field><name>V</name><bitOffset>0</bitOffset><bitWidth>64</bitWidth></field></fields></register>",
@@ -111,6 +111,21 @@ const LISTED: [(&str, &str); 6] = [
         "<register><name>S</name><addressOffset>4</addressOffset><fields><field><name>E</name><lsb>3</lsb><msb>5</msb><access>read-only</access></field><field><name>O</name><bitRange>[31:31]</bitRange><access>read-only</access><modifiedWriteValues>oneToClear</modifiedWriteValues></field></fields></register>",
         "T.s 0x40000004 32 ro 0x00000000\n  e [5:3] ro modify\n  o [31:31] ro oneToClear\n",
     ),
+    // a list of registers, whose indexes are letters
+    (
+        "<register><name>CH%s</name><addressOffset>0</addressOffset><dim>3</dim><dimIncrement>4</dimIncrement><dimIndex>A-C</dimIndex></register>",
+        "T.cha 0x40000000 32 rw 0x00000000\nT.chb 0x40000004 32 rw 0x00000000\nT.chc 0x40000008 32 rw 0x00000000\n",
+    ),
+    // an array of registers
+    (
+        "<register><name>CH[%s]</name><addressOffset>0</addressOffset><dim>4</dim><dimIncrement>16</dimIncrement></register>",
+        "T.ch[0] 0x40000000 32 rw 0x00000000\nT.ch[1] 0x40000010 32 rw 0x00000000\nT.ch[2] 0x40000020 32 rw 0x00000000\nT.ch[3] 0x40000030 32 rw 0x00000000\n",
+    ),
+    // a list of fields, whose step is in bits
+    (
+        "<register><name>R</name><addressOffset>0</addressOffset><fields><field><name>F%s</name><bitOffset>1</bitOffset><bitWidth>1</bitWidth><dim>3</dim><dimIncrement>2</dimIncrement></field></fields></register>",
+        "T.r 0x40000000 32 rw 0x00000000\n  f0 [1:1] rw modify\n  f1 [3:3] rw modify\n  f2 [5:5] rw modify\n",
+    ),
 ];
 
 #[test]
@@ -123,7 +138,7 @@ fn listed_registers(rt: HostRuntime) -> Result<(), Fail> {
 }
 
 // Registers of `T` that are refused as a whole, or aren't served yet.
-const REFUSED: [(&str, &str); 7] = [
+const REFUSED: [(&str, &str); 8] = [
     (
         "<register><name>A</name><addressOffset>2</addressOffset></register>",
         "T.A: address is not a multiple of the width",
@@ -145,8 +160,12 @@ const REFUSED: [(&str, &str); 7] = [
         "T.R: address passes 64 bits",
     ),
     (
-        "<register><name>CH%s</name><addressOffset>0</addressOffset><dim>3</dim><dimIncrement>4</dimIncrement></register>",
-        "T.CH%s: not built yet",
+        "<register><name>CH%s</name><addressOffset>0</addressOffset><dim>3</dim><dimIncrement>4</dimIncrement><dimIndex>0-3</dimIndex></register>",
+        "T.CH%s: dim is 3 and dimIndex gives 4",
+    ),
+    (
+        "<register><name>CH%s</name><addressOffset>0</addressOffset><dim>0</dim><dimIncrement>4</dimIncrement><dimIndex>A-C</dimIndex></register>",
+        "T.CH%s: dim is 0",
     ),
     (
         "<register><name>A</name><addressOffset>0</addressOffset></register><register derivedFrom=\"A\"><name>B</name><addressOffset>4</addressOffset></register>",
@@ -320,5 +339,20 @@ fn limits(rt: HostRuntime) -> Result<(), Fail> {
         files,
         MemSink::new(rt.alloc()),
         &wanted,
+    )
+}
+
+// An array of 65,536 registers in an array of five clusters.
+#[test]
+fn too_many_registers(rt: HostRuntime) -> Result<(), Fail> {
+    let description = described(
+        &rt,
+        "<cluster><name>C[%s]</name><addressOffset>0</addressOffset><dim>5</dim><dimIncrement>0x40000</dimIncrement><register><name>R[%s]</name><addressOffset>0</addressOffset><dim>65536</dim><dimIncrement>4</dimIncrement></register></cluster>",
+    )?;
+    refuses_with(
+        &rt,
+        description.as_str(),
+        11,
+        "too many registers: 327680",
     )
 }

@@ -1,15 +1,14 @@
 -- The table by a walk of the tree is that of the flat rows.
 use Rattle.std.proofs.Common.{◌≡◌, ℕ, suc, ◌+◌, ◌*◌, unwrap_or, Bool, false, cond, List, length, [], ◌∷◌, ◌++◌, map, reverse, Option, Some, None, refl, sym, ap, ap₂, ◌∙◌, append_assoc, append-nil, zero-add, arith}
-use Rattle.std.specs.List.{AllByRecursion, flat_map, list_any, zip, sum_by}
+use Rattle.std.specs.List.{AllByRecursion, flat_map, list_any, zip}
 use Rattle.std.proofs.lemmas.Grind.{flat_map-append}
 use Rattle.std.proofs.lemmas.List.{reverse-append}
 use Rattle.std.proofs.lemmas.List.Folds.{flat_map-map}
 use Rattle.std.proofs.lemmas.List.Sums.{sum_by-cons}
 use Rattle.pac_base.specs.declared.path.Step.{Step as NamedStep}
-use Rattle.reg_table.specs.Registers.{Member, register_row, row_path, rows_of_member, table_of, members_in_order}
+use Rattle.reg_table.specs.Registers.{Member, register_row, row_path, rows_of_member, table_of}
 use Rattle.reg_table.specs.Walk.{rows_in, rows_of_peripherals, props_inside, path_inside, peripheral_path}
 use Rattle.reg_table.specs.declared.row.Row.{Row as TableRow}
-use Rattle.reg_table.specs.declared.row.RowPath.{RowPath}
 use Rattle.reg_table.proofs.Exchanges.{every-left, every-right, flat_map-agree, flat_map-flat_map}
 use Rattle.reg_table.proofs.Members.{Known, below-known, members-spread}
 use Rattle.reg_table.proofs.Unrolling.{members_at, below, spread}
@@ -22,7 +21,7 @@ use Rattle.svd_model.specs.Properties.{nearest, holding}
 use Rattle.svd_model.specs.Stating.{value_of, stated_size, stated_access, stated_reset, stated_mask, stated_increment, stated_dim, indexes_of, is_of, start_of, properties_of, address_of}
 use Rattle.svd_model.specs.Steps.{Step, register, same_step, same_key}
 use Rattle.svd_model.specs.Trees.{device_tree, device_rows, device_places, peripheral_under, peripheral_places, item_under}
-use Rattle.svd_model.specs.Visits.{Visit, visit_at, visit_below, visits}
+use Rattle.svd_model.specs.Visits.{visit_at, visit_below, visits}
 use Rattle.svd_model.proofs.Stated.{device-base, device-offset, device-props, device-dim}
 use Rattle.svd_model.proofs.Steps.{same_step-finer}
 use Rattle.svd_rows.specs.Elements.{IsDistinct, Every}

@@ -9,7 +9,7 @@ use Rattle.svd_model.specs.Keys.{Key, base_address, at_offset, dim_count, dim_in
 use Rattle.svd_model.specs.Properties.{holding}
 use Rattle.svd_model.specs.Stating.{value_of, paths_of, ways_down, keys_down, properties_of, address_of}
 use Rattle.svd_model.specs.Steps.{Step, Kind, peripheral, cluster, register, same_step}
-use Rattle.svd_rows.specs.Forest.{Forest, Tree, leaf, node}
+use Rattle.svd_rows.specs.Forest.{Forest, leaf, node}
 use Rattle.svd_rows.specs.LookUps.{inside, top_key, child_step, keys_of, children_of, ends_with}
 use Rattle.svd_rows.specs.Paths.{begins}
 use Rattle.svd_rows.specs.RowEdits.{exchanged}

@@ -83,12 +83,7 @@ fn push_items(
 /// Adds the rows of each member of a child, and below it, one member after the other.
 #[cycle(walk)]
 #[tactic(auto, using(crate::proofs::Walks::among_at))]
-fn push_item(
-    alloc: Global,
-    item: &Item,
-    outer: &Outer,
-    table: &mut Table,
-) -> Result<(), NoMemory>
+fn push_item(alloc: Global, item: &Item, outer: &Outer, table: &mut Table) -> Result<(), NoMemory>
     requires { FitIn outer.now.start outer.now.props (siblings (item_under item.now ∷ [])) }
     ensures rows { OnOk result (table.new ≡ table.old ++ rows_in outer.now.path outer.now.start outer.now.props (siblings (item_under item.now ∷ []))) }
     ensures listed { OnOk result (All IsListed table.old → All IsListed table.new) }

@@ -6,7 +6,7 @@ use Rattle.std.proofs.lemmas.List.{map-append, reverse-append}
 use Rattle.std.proofs.lemmas.List.Folds.{find-append}
 use Rattle.pac_base.specs.declared.path.Step.{Step as NamedStep}
 use Rattle.svd_model.specs.declared.passages.Sought.{Sought}
-use Rattle.svd_model.specs.declared.passages.Sought.TheVariants.{Source, Dimension}
+use Rattle.svd_model.specs.declared.passages.Sought.TheVariants.{Source}
 use Rattle.svd_model.specs.Keys.{Key}
 use Rattle.svd_model.specs.Steps.{Step, Kind, peripheral, cluster, register, field, set, value}
 use Rattle.svd_model.specs.Unbuilt.{sought_step, sought_key, is_sought, shown_names, plain_step, shown, first_unbuilt, way_here, first_way}

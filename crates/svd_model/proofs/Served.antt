@@ -5,12 +5,12 @@ use Rattle.std.specs.Option.{option_or}
 use Rattle.pac_base.specs.Names.{is_word_byte}
 use Rattle.svd_model.specs.declared.device.Device.{Device}
 use Rattle.svd_model.specs.declared.passages.Sought.{Sought}
-use Rattle.svd_model.specs.declared.passages.Sought.TheVariants.{Source, Dimension}
-use Rattle.svd_model.specs.Facts.{IsFolded, IsElement, IsPlacedOrDerived, IsPlaced, HasForm, IsDescribed, IsDerived, IsUnfolded, IsUnfoldedElement, IsArrayOrPlain, IsArrayDim, IsBounded, IsValueName, is_offset, is_derived, is_dim}
+use Rattle.svd_model.specs.declared.passages.Sought.TheVariants.{Source}
+use Rattle.svd_model.specs.Facts.{IsFolded, IsElement, IsPlacedOrDerived, IsPlaced, HasForm, IsDescribed, IsDerived, is_offset, is_derived}
 use Rattle.svd_model.specs.Keys.{Key, derived_from, dim_count, base_address, at_offset, bit_width}
 use Rattle.svd_model.specs.Steps.{Step, Kind, peripheral, cluster, register, field, set, value}
 use Rattle.svd_model.specs.Trees.{device_tree, device_rows}
-use Rattle.svd_model.specs.Unbuilt.{sought_step, sought_key, is_dimensioned, is_dimension, is_marked, first_way, first_source, first_dimension, first_unbuilt, shown_names}
+use Rattle.svd_model.specs.Unbuilt.{sought_step, sought_key, first_way, first_source, first_unbuilt, shown_names}
 use Rattle.svd_rows.specs.Elements.{Every}
 use Rattle.svd_rows.specs.Forest.{Forest, Tree, leaf, node}
 use Rattle.svd_model.proofs.Seeking.{upward, first_unbuilt-rows}
@@ -69,70 +69,4 @@ derived_device device old none = record {
   distinct = old.distinct;
   elements = both (IsElement IsPlacedOrDerived) (λ step keys. (sought_step Source step || list_any (sought_key Source) keys) ≡ false) (IsElement IsPlaced) derived_element (device_tree device).below old.elements (none_sought Source (device_tree device).below (no_way Source device none));
   few = old.few;
-}
-
--- ---- unfolding
-
-dim_is : (key : Key) → is_dim key ≡ true → is_dimension key ≡ true
-dim_is (dim_count n) e = refl
-dim_is _ e = absurd cc
-
-no_dim : (keys : List Key) → list_any is_dimension keys ≡ false → list_any is_dim keys ≡ false
-no_dim [] h = refl
-no_dim (key ∷ keys) h = cases (is_dim key) (is_dimension key) (dim_is key) h (no_dim keys)
-  where
-    cases : (a b : Bool) → (a ≡ true → b ≡ true) → (b || list_any is_dimension keys) ≡ false → (list_any is_dimension keys ≡ false → list_any is_dim keys ≡ false) → (a || list_any is_dim keys) ≡ false
-    cases true true is h rest = absurd cc
-    cases true false is h rest = absurd (let e = is refl in cc)
-    cases false true is h rest = absurd cc
-    cases false false is h rest = rest h
-
-right_false : (a b : Bool) → (a || b) ≡ false → b ≡ false
-right_false true b h = absurd cc
-right_false false b h = h
-
-left_false : (a b : Bool) → (a || b) ≡ false → a ≡ false
-left_false true b h = absurd cc
-left_false false b h = refl
-
-not_false : (b : Bool) → not b ≡ false → b ≡ true
-not_false true h = refl
-not_false false h = absurd cc
-
-no_members : (keys : List Key) → list_any is_dim keys ≡ false → AllByRecursion IsArrayDim keys
-no_members [] h = tt
-no_members (key ∷ keys) h = (one key (left_false (is_dim key) (list_any is_dim keys) h), no_members keys (right_false (is_dim key) (list_any is_dim keys) h))
-  where
-    one : (key : Key) → is_dim key ≡ false → IsArrayDim key
-    one (dim_count n) e = absurd cc
-    one _ e = tt
-
-wider : (keys : List Key) → AllByRecursion (IsBounded (2 ^ 64)) keys → AllByRecursion (IsBounded (2 ^ 80)) keys
-wider [] h = tt
-wider (key ∷ keys) h = (one key h.0, wider keys h.1)
-  where
-    one : (key : Key) → IsBounded (2 ^ 64) key → IsBounded (2 ^ 80) key
-    one (base_address n) b = let below : n < 2 ^ 64 = b in omega arith
-    one (at_offset n) b = let below : n < 2 ^ 64 = b in omega arith
-    one (bit_width n) b = b
-    one _ b = tt
-
-unfolded_element : (step : Step) (keys : List Key) → IsElement IsPlaced step keys → (sought_step Dimension step || list_any (sought_key Dimension) keys) ≡ false → IsUnfoldedElement step keys
-unfolded_element step keys old none = record { form = at step.kind old.form (left_false (is_dimensioned step) (list_any is_dimension keys) none); members = no_members keys plain; bounded = wider keys old.bounded }
-  where
-    plain : list_any is_dim keys ≡ false
-    plain = no_dim keys (right_false (is_dimensioned step) (list_any is_dimension keys) none)
-
-    at : (kind : Kind) → HasForm IsPlaced (record { kind = kind; name = step.name; number = step.number }) keys → is_dimensioned (record { kind = kind; name = step.name; number = step.number }) ≡ false → IsArrayOrPlain (record { kind = kind; name = step.name; number = step.number }) keys
-    at peripheral h e = (plain, not_false (list_all is_word_byte step.name) e)
-    at cluster h e = absurd cc
-    at register h e = inr (plain, not_false (list_all is_word_byte step.name) e)
-    at field h e = ((plain, not_false (list_all is_word_byte step.name) e), h.1)
-    at set h e = tt
-    at value h e = h
-
-pub unfolded_device : (device : Device) → IsDerived device → first_dimension (device_rows device) ≡ None → IsUnfolded device
-unfolded_device device old none = record {
-  distinct = old.distinct;
-  elements = both (IsElement IsPlaced) (λ step keys. (sought_step Dimension step || list_any (sought_key Dimension) keys) ≡ false) IsUnfoldedElement unfolded_element (device_tree device).below old.elements (none_sought Dimension (device_tree device).below (no_way Dimension device none));
 }

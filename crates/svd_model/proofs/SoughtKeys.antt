@@ -12,14 +12,14 @@ use Rattle.svd_model.specs.declared.device.Register.{Register}
 use Rattle.svd_model.specs.declared.device.Values.{Values}
 use Rattle.svd_model.specs.declared.device.Variant.{Variant}
 use Rattle.svd_model.specs.declared.passages.Sought.{Sought}
-use Rattle.svd_model.specs.declared.passages.Sought.TheVariants.{Source, Dimension}
+use Rattle.svd_model.specs.declared.passages.Sought.TheVariants.{Source}
 use Rattle.pac_base.specs.declared.path.Step.{Step as NamedStep}
 use Rattle.svd_values.specs.declared.index.DimIndex.{DimIndex}
 use Rattle.svd_model.specs.Facts.{is_derived}
 use Rattle.svd_model.specs.Keys.{Key, rank, derived_from, dim_count, dim_increment, dim_index, register_size, register_access, reset_value, reset_mask}
 use Rattle.svd_model.specs.Steps.{Step, set, value}
 use Rattle.svd_model.specs.Trees.{device_places, peripheral_places, cluster_places, register_places, field_places, set_places, value_places, set_tree, value_tree, numbered, field_under, peripheral_under}
-use Rattle.svd_model.specs.Unbuilt.{sought_step, sought_key, is_dimension, first_way, way_to, way_here, is_sought_at, is_sought_cluster, is_sought_set, shown_names, register_under, cluster_under}
+use Rattle.svd_model.specs.Unbuilt.{sought_step, sought_key, first_way, way_to, way_here, is_sought_at, is_sought_set, shown_names, register_under, cluster_under}
 use Rattle.svd_model.specs.declared.device.Cluster.{Cluster, out-Cluster}
 use Rattle.svd_model.specs.declared.sibling.Sibling.{Sibling}
 use Rattle.svd_model.proofs.Trees.{cluster_tree-is}
@@ -30,7 +30,6 @@ use Rattle.svd_rows.specs.Ranks.{IsPlaced, stated}
 -- the keys that tell what is sought
 abbrev pub sought_keys : Sought → Option (List NamedStep) → Dim → Bool
 sought_keys Source derived dim = is_some derived
-sought_keys Dimension derived dim = is_some dim.count || (is_some dim.step || is_some dim.index)
 
 module _ (test : Key → Bool) where
   -- no key of this rank or a later one passes
@@ -62,13 +61,6 @@ unfolding rank
 late-source (derived_from path) h = absurd (omega (arith, h))
 late-source _ h = refl
 
-late-dimension : (key : Key) → 5 ≤ rank key → is_dimension key ≡ false
-unfolding rank
-late-dimension (dim_count n) h = absurd (omega (arith, h))
-late-dimension (dim_increment n) h = absurd (omega (arith, h))
-late-dimension (dim_index index) h = absurd (omega (arith, h))
-late-dimension _ h = refl
-
 or_false : (b : Bool) → (b || false) ≡ b
 or_false true = refl
 or_false false = refl
@@ -84,16 +76,6 @@ first_places Source derived dim places placed =
     ∙ skip_key is_derived dim_index dim.index places (λ _. refl)
     ∙ later_none is_derived 5 places late-source placed)
     ∙ or_false (is_some derived)
-first_places Dimension derived dim places placed =
-    skip_key is_dimension derived_from derived (option_map dim_count dim.count ∷ option_map dim_increment dim.step ∷ option_map dim_index dim.index ∷ places) (λ _. refl)
-    ∙ this_key is_dimension dim_count dim.count (option_map dim_increment dim.step ∷ option_map dim_index dim.index ∷ places) (λ _. refl)
-    ∙ ap (λ b. is_some dim.count || b)
-    (this_key is_dimension dim_increment dim.step (option_map dim_index dim.index ∷ places) (λ _. refl)
-    ∙ ap (λ b. is_some dim.step || b)
-    (this_key is_dimension dim_index dim.index places (λ _. refl)
-    ∙ ap (λ b. is_some dim.index || b) (later_none is_dimension 5 places late-dimension placed)
-    ∙ or_false (is_some dim.index)))
-
 behind_five : (a b c d e : Option Key) (places : List (Option Key)) → IsPlaced rank 0 (a ∷ b ∷ c ∷ d ∷ e ∷ places) → IsPlaced rank 5 places
 behind_five a b c d e places h =
     placed_behind 4 e places (placed_behind 3 d (e ∷ places) (placed_behind 2 c (d ∷ e ∷ places) (placed_behind 1 b (c ∷ d ∷ e ∷ places) (placed_behind 0 a (b ∷ c ∷ d ∷ e ∷ places) h))))
@@ -125,7 +107,6 @@ module _ (sought : Sought) where
     where
       none : (s : Sought) → sought_keys s None (record { count = None; step = None; index = None }) ≡ false
       none Source = refl
-      none Dimension = refl
 
   pub device-keys : (d : Device) → list_any (sought_key sought) (stated (device_places d)) ≡ false
   unfolding device_places stated
@@ -137,7 +118,6 @@ module _ (sought : Sought) where
 
       named : (s : Sought) → list_any (sought_key s) (stated (device_places d)) ≡ false
       named Source = later is_derived late-source
-      named Dimension = later is_dimension late-dimension
 
   -- ---- the first way among siblings
 
@@ -164,35 +144,31 @@ module _ (sought : Sought) where
   way_to-below x e = ap (λ b. cond b (Some (shown_names x.0)) (option_map (λ way. way ++ shown_names x.0) (first_way sought x.1.below))) e
 
 module _ (sought : Sought) where
-  pub peripheral-here : (key : Sibling) (p : Peripheral) → (sought_step sought (peripheral_under (key, p)).0 || list_any (sought_key sought) (peripheral_under (key, p)).1.keys) ≡ is_sought_at sought key.name p.derived p.dim
+  pub peripheral-here : (key : Sibling) (p : Peripheral) → (sought_step sought (peripheral_under (key, p)).0 || list_any (sought_key sought) (peripheral_under (key, p)).1.keys) ≡ is_sought_at sought p.derived
   peripheral-here key p = ap (λ b. sought_step sought (peripheral_under (key, p)).0 || b) (peripheral-keys sought p) ∙ by sought
     where
-      by : (s : Sought) → (sought_step s (peripheral_under (key, p)).0 || sought_keys s p.derived p.dim) ≡ is_sought_at s key.name p.derived p.dim
+      by : (s : Sought) → (sought_step s (peripheral_under (key, p)).0 || sought_keys s p.derived p.dim) ≡ is_sought_at s p.derived
       by Source = refl
-      by Dimension = refl
 
-  pub register-here : (key : Sibling) (r : Register) → (sought_step sought (register_under key r).0 || list_any (sought_key sought) (register_under key r).1.keys) ≡ is_sought_at sought key.name r.derived r.dim
+  pub register-here : (key : Sibling) (r : Register) → (sought_step sought (register_under key r).0 || list_any (sought_key sought) (register_under key r).1.keys) ≡ is_sought_at sought r.derived
   register-here key r = ap (λ b. sought_step sought (register_under key r).0 || b) (register-keys sought r) ∙ by sought
     where
-      by : (s : Sought) → (sought_step s (register_under key r).0 || sought_keys s r.derived r.dim) ≡ is_sought_at s key.name r.derived r.dim
+      by : (s : Sought) → (sought_step s (register_under key r).0 || sought_keys s r.derived r.dim) ≡ is_sought_at s r.derived
       by Source = refl
-      by Dimension = refl
 
-  pub field-here : (key : Sibling) (f : Field) → (sought_step sought (field_under (key, f)).0 || list_any (sought_key sought) (field_under (key, f)).1.keys) ≡ is_sought_at sought key.name f.derived f.dim
+  pub field-here : (key : Sibling) (f : Field) → (sought_step sought (field_under (key, f)).0 || list_any (sought_key sought) (field_under (key, f)).1.keys) ≡ is_sought_at sought f.derived
   field-here key f = ap (λ b. sought_step sought (field_under (key, f)).0 || b) (field-keys sought f) ∙ by sought
     where
-      by : (s : Sought) → (sought_step s (field_under (key, f)).0 || sought_keys s f.derived f.dim) ≡ is_sought_at s key.name f.derived f.dim
+      by : (s : Sought) → (sought_step s (field_under (key, f)).0 || sought_keys s f.derived f.dim) ≡ is_sought_at s f.derived
       by Source = refl
-      by Dimension = refl
 
-  pub cluster-here : (key : Sibling) (c : Cluster) → (sought_step sought (cluster_under key c).0 || list_any (sought_key sought) (cluster_under key c).1.keys) ≡ is_sought_cluster sought (out-Cluster c).derived
+  pub cluster-here : (key : Sibling) (c : Cluster) → (sought_step sought (cluster_under key c).0 || list_any (sought_key sought) (cluster_under key c).1.keys) ≡ is_sought_at sought (out-Cluster c).derived
   cluster-here key c =
       ap (λ (tree : Tree Step Key). sought_step sought (cluster_under key c).0 || list_any (sought_key sought) tree.keys) (cluster_tree-is c)
       ∙ ap (λ b. sought_step sought (cluster_under key c).0 || b) (cluster-keys sought (out-Cluster c)) ∙ by sought
     where
-      by : (s : Sought) → (sought_step s (cluster_under key c).0 || sought_keys s (out-Cluster c).derived (out-Cluster c).dim) ≡ is_sought_cluster s (out-Cluster c).derived
+      by : (s : Sought) → (sought_step s (cluster_under key c).0 || sought_keys s (out-Cluster c).derived (out-Cluster c).dim) ≡ is_sought_at s (out-Cluster c).derived
       by Source = refl
-      by Dimension = refl
 
   -- no enumerated value is sought
   values-none : (n : ℕ) (vs : List Variant) → first_way sought (numbered value n (map value_tree vs)) ≡ None
@@ -204,7 +180,6 @@ module _ (sought : Sought) where
     where
       by : (s : Sought) → first_way sought (numbered value (n + 1) (map value_tree vs)) ≡ None → ◌≡◌ {A = Option (List (List ℕ))} (option_or (cond (sought_step s (record { kind = value; name = v.name; number = n }) || false) (Some []) None) (first_way sought (numbered value (n + 1) (map value_tree vs)))) None
       by Source e = e
-      by Dimension e = e
 
   -- a set is sought where it is derived
   pub sets-way : (n : ℕ) (sets : List Values) → first_way sought (numbered set n (map set_tree sets)) ≡ cond (is_sought_set sought sets) (Some []) None
@@ -213,7 +188,6 @@ module _ (sought : Sought) where
     where
       by : (s : Sought) → ◌≡◌ {A = Option (List (List ℕ))} None (cond (is_sought_set s []) (Some []) None)
       by Source = refl
-      by Dimension = refl
   sets-way n (v ∷ vs) =
       ap (λ b. option_or (cond (sought_step sought (set_step) || b) (Some []) (option_map (λ way. way ++ []) (first_way sought (numbered value 0 (map value_tree v.items.items))))) (first_way sought (numbered set (n + 1) (map set_tree vs)))) (set-keys sought v)
       ∙ ap₂ (λ below rest. option_or (cond (sought_step sought (set_step) || sought_keys sought v.derived (record { count = None; step = None; index = None })) (Some []) (option_map (λ way. way ++ []) below)) rest) (values-none 0 v.items.items) (sets-way (n + 1) vs)
@@ -225,17 +199,16 @@ module _ (sought : Sought) where
       by : (s : Sought) (derived : Option (List NamedStep)) → ◌≡◌ {A = Option (List (List ℕ))} (option_or (cond (sought_step s set_step || sought_keys s derived (record { count = None; step = None; index = None })) (Some []) None) (cond (is_sought_set s vs) (Some []) None)) (cond (is_sought_set s (record v { derived = derived } ∷ vs)) (Some []) None)
       by Source None = refl
       by Source (Some d) = refl
-      by Dimension derived = refl
 
-  pub field-way : (key : Sibling) (f : Field) → is_sought_at sought key.name f.derived f.dim ≡ false → is_sought_set sought f.values.items ≡ false → way_to sought (field_under (key, f)) ≡ None
+  pub field-way : (key : Sibling) (f : Field) → is_sought_at sought f.derived ≡ false → is_sought_set sought f.values.items ≡ false → way_to sought (field_under (key, f)) ≡ None
   field-way key f at sets =
       way_to-below sought (field_under (key, f)) (field-here key f ∙ at)
       ∙ ap (option_map (λ way. way ++ key.name ∷ [])) (sets-way 0 f.values.items ∙ ap (λ b. cond b (Some []) None) sets)
 
-  pub field-way-here : (key : Sibling) (f : Field) → is_sought_at sought key.name f.derived f.dim ≡ true → way_to sought (field_under (key, f)) ≡ Some (key.name ∷ [])
+  pub field-way-here : (key : Sibling) (f : Field) → is_sought_at sought f.derived ≡ true → way_to sought (field_under (key, f)) ≡ Some (key.name ∷ [])
   field-way-here key f at = way_to-here sought (field_under (key, f)) (field-here key f ∙ at)
 
-  pub field-way-set : (key : Sibling) (f : Field) → is_sought_at sought key.name f.derived f.dim ≡ false → is_sought_set sought f.values.items ≡ true → way_to sought (field_under (key, f)) ≡ Some (key.name ∷ [])
+  pub field-way-set : (key : Sibling) (f : Field) → is_sought_at sought f.derived ≡ false → is_sought_set sought f.values.items ≡ true → way_to sought (field_under (key, f)) ≡ Some (key.name ∷ [])
   field-way-set key f at sets =
       way_to-below sought (field_under (key, f)) (field-here key f ∙ at)
       ∙ ap (option_map (λ way. way ++ key.name ∷ [])) (sets-way 0 f.values.items ∙ ap (λ b. cond b (Some []) None) sets)

@@ -16,7 +16,7 @@ use Rattle.svd_model.proofs.Placed.{device-placed, peripheral-placed, cluster-pl
 use Rattle.svd_rows.specs.Ranks.{IsPlaced, stated}
 
 -- the key in this place
-abbrev place_at : List (Option Key) → ℕ → Option Key
+abbrev pub place_at : List (Option Key) → ℕ → Option Key
 place_at [] n = None
 place_at (o ∷ places) zero = o
 place_at (o ∷ places) (suc n) = place_at places n
@@ -49,11 +49,11 @@ module _ {A : Type 0} (one : Key → Option A) where
       ∙ found_at (first + 1) n (λ key other. others key (λ e. other (omega arith))) places h.1
 
   -- a key is found at the place of its rank
-  found : (n : ℕ) → ((key : Key) → (rank key ≡ n → ⊥) → one key ≡ None) → (places : List (Option Key)) → IsPlaced rank 0 places → value_of one (stated places) ≡ option_and_then one (place_at places n)
+  pub found : (n : ℕ) → ((key : Key) → (rank key ≡ n → ⊥) → one key ≡ None) → (places : List (Option Key)) → IsPlaced rank 0 places → value_of one (stated places) ≡ option_and_then one (place_at places n)
   unfolding value_of
   found n others places h = found_at 0 n (λ key other. others key (λ e. other (omega arith))) places h
 
-stated_back : {A : Type 0} (key : A → Key) (one : Key → Option A) → ((a : A) → one (key a) ≡ Some a) → (o : Option A) → option_and_then one (option_map key o) ≡ o
+pub stated_back : {A : Type 0} (key : A → Key) (one : Key → Option A) → ((a : A) → one (key a) ≡ Some a) → (o : Option A) → option_and_then one (option_map key o) ≡ o
 stated_back key one is None = refl
 stated_back key one is (Some a) = is a
 
@@ -99,7 +99,7 @@ unfolding rank
 other-width (bit_width n) h = absurd (h refl)
 other-width _ h = refl
 
-other-dim : (key : Key) → (rank key ≡ 2 → ⊥) → stated_dim key ≡ None
+pub other-dim : (key : Key) → (rank key ≡ 2 → ⊥) → stated_dim key ≡ None
 unfolding rank
 other-dim (dim_count n) h = absurd (h refl)
 other-dim _ h = refl

@@ -1,15 +1,18 @@
 -- What each typed state of a device says of it. CMSIS-SVD 1.3 gives the forms; the bounds and limits are this
 -- project's own.
-use Rattle.std.specs.Prelude.{◌≡◌, ◌≢◌, ◌⊎◌, ℕ, ◌^◌, ◌<◌, ◌≤◌, Bool, true, false, ◌&&◌, ◌||◌, nat_le, List, [], length, ⊤, IsTrue}
-use Rattle.std.specs.List.{AllByRecursion, list_all, list_any}
+use Rattle.std.specs.Prelude.{◌≡◌, ◌≢◌, ◌⊎◌, ℕ, ◌^◌, ◌<◌, ◌≤◌, Bool, true, false, ◌&&◌, ◌||◌, nat_le, List, [], filter, length, ⊤, IsTrue}
+use Rattle.std.specs.List.{AllByRecursion, list_all, list_any, sum_by}
 use Rattle.pac_base.specs.Names.{IsWord, IsArrayName}
 use Rattle.svd_model.specs.declared.device.Device.{Device}
 use Rattle.svd_model.specs.Checking.{loose_faults}
 use Rattle.svd_model.specs.Keys.{Key, derived_from, dim_count, dim_index, base_address, at_offset, bit_width}
+use Rattle.svd_model.specs.Stating.{keys_down, members_of, paths_of_kind}
 use Rattle.svd_model.specs.Steps.{Step, Kind, peripheral, cluster, register, field, set, value, same_key}
 use Rattle.svd_model.specs.Trees.{device_tree, device_rows}
 use Rattle.svd_rows.specs.Elements.{IsDistinct, Every, count}
 use Rattle.svd_rows.specs.Forest.{Tree}
+use Rattle.svd_rows.specs.LookUps.{is_element_of}
+use Rattle.svd_rows.specs.Rows.{Row, rows}
 use Rattle.svd_values.specs.declared.index.DimIndex.{DimIndex}
 use Rattle.svd_values.specs.declared.index.DimIndex.TheVariants.{Numbers, Letters, Words}
 
@@ -131,10 +134,38 @@ pub record IsUnfoldedElement (step : Step) (keys : List Key) : Type 0 where
   pub members : AllByRecursion IsArrayDim keys
   pub bounded : AllByRecursion (IsBounded (2 ^ 80)) keys
 
+-- ---- how much a description is, where each list is unfolded: this project's own limits
+
+-- how many registers, fields and enumerated values there may be with every member of an array
+abbrev pub register_limit : ℕ
+register_limit = 262144
+
+abbrev pub field_limit : ℕ
+field_limit = 524288
+
+abbrev pub value_limit : ℕ
+value_limit = 1048576
+
+-- the peripherals, clusters, registers, fields and enumerated values of a description: an array is one of them
+unfoldable pub elements_of : List (Row Step Key) → ℕ
+elements_of all = length (filter (is_element_of is_counted) all)
+
+-- the elements of a kind with every member: what stands in an array counts as often as the array has members
+unfoldable pub members_in : Kind → List (Row Step Key) → ℕ
+members_in kind all = sum_by (λ path. length (members_of (keys_down all path))) (paths_of_kind kind all)
+
+-- there are no more of each than there may be
+pub record IsFew (all : List (Row Step Key)) : Type 0 where
+  pub elements : elements_of all ≤ element_limit
+  pub registers : members_in register all ≤ register_limit
+  pub fields : members_in field all ≤ field_limit
+  pub values : members_in value all ≤ value_limit
+
 -- a tree in which each list is unfolded
 pub record IsUnfoldedTree (tree : Tree Step Key) : Type 0 where
   pub distinct : IsDistinct same_key tree.below
   pub elements : Every IsUnfoldedElement tree.below
+  pub few : IsFew (rows tree)
 
 -- a device in which each list is unfolded
 abbrev pub IsUnfolded : Device → Type 0

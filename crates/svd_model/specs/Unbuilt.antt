@@ -1,58 +1,33 @@
--- Which elements stand in the way while deriving, or the unfolding of dimensions and clusters, isn't built: the
--- first in document order is told. This project's own rule.
-use Rattle.std.specs.Prelude.{◌≡◌, ℕ, Bool, true, false, ◌&&◌, ◌||◌, not, List, [], ◌∷◌, ◌++◌, Option, Some, None, option_map, is_some, Result, Ok, Err, ⊤, if◌then◌else◌}
-use Rattle.std.specs.List.{list_all, list_any, find}
+-- Which elements stand in the way while deriving isn't built: the first in document order is told. This project's
+-- own rule.
+use Rattle.std.specs.Prelude.{◌≡◌, ℕ, Bool, true, false, ◌&&◌, ◌||◌, List, [], ◌∷◌, ◌++◌, Option, Some, None, option_map, is_some, Result, Ok, Err, ⊤, if◌then◌else◌}
+use Rattle.std.specs.List.{list_any, find}
 use Rattle.std.specs.Option.{option_or}
-use Rattle.pac_base.specs.Names.{is_word_byte}
 use Rattle.pac_base.specs.declared.path.Step.{Step as NamedStep}
 use Rattle.pac_base.specs.declared.back.Back.{Back}
 use Rattle.svd_model.specs.declared.device.Cluster.{Cluster}
-use Rattle.svd_model.specs.declared.device.Dim.{Dim}
 use Rattle.svd_model.specs.declared.device.Register.{Register}
 use Rattle.svd_model.specs.declared.device.Values.{Values}
 use Rattle.svd_model.specs.declared.sibling.Sibling.{Sibling}
 use Rattle.svd_model.specs.declared.passages.UnbuiltFault.{UnbuiltFault}
 use Rattle.svd_model.specs.declared.passages.UnbuiltFault.TheVariants.{Unbuilt, Memory}
 use Rattle.svd_model.specs.declared.passages.Sought.{Sought}
-use Rattle.svd_model.specs.declared.passages.Sought.TheVariants.{Source, Dimension}
+use Rattle.svd_model.specs.declared.passages.Sought.TheVariants.{Source}
 use Rattle.svd_model.specs.Facts.{is_derived}
-use Rattle.svd_model.specs.Keys.{Key, dim_count, dim_increment, dim_index}
+use Rattle.svd_model.specs.Keys.{Key}
 use Rattle.svd_model.specs.Steps.{Step, Kind, peripheral, cluster, register, field, set, value}
 use Rattle.svd_model.specs.Trees.{step_of, register_tree, cluster_tree}
 use Rattle.svd_rows.specs.Forest.{Forest, Tree, leaf, node}
 use Rattle.svd_rows.specs.LookUps.{ends_with}
 use Rattle.svd_rows.specs.Rows.{Row, Said, element, states, is_element}
 
--- the name holds the mark `%s`: without one, a name has letters, digits and `_` alone
-abbrev pub is_marked : List ℕ → Bool
-is_marked name = not (list_all is_word_byte name)
-
--- the step leads to a cluster, or to an element whose name holds the mark
-abbrev pub is_dimensioned : Step → Bool
-is_dimensioned step = at step.kind
-  where
-    at : Kind → Bool
-    at cluster = true
-    at set = false
-    at value = false
-    at _ = is_marked step.name
-
--- the key is one of the three of dimensions
-abbrev pub is_dimension : Key → Bool
-is_dimension (dim_count n) = true
-is_dimension (dim_increment n) = true
-is_dimension (dim_index index) = true
-is_dimension _ = false
-
 -- the step alone tells that its element is one of those sought
 abbrev pub sought_step : Sought → Step → Bool
 sought_step Source step = false
-sought_step Dimension step = is_dimensioned step
 
 -- the key tells it
 abbrev pub sought_key : Sought → Key → Bool
 sought_key Source key = is_derived key
-sought_key Dimension key = is_dimension key
 
 -- the row speaks of an element that is sought: it says that it is there, or states the key that tells it
 unfoldable pub is_sought : Sought → Row Step Key → Bool
@@ -92,10 +67,6 @@ first_unbuilt sought all = option_map (λ row. shown row.path) (find (is_sought 
 abbrev pub first_source : List (Row Step Key) → Option (List NamedStep)
 first_source all = first_unbuilt Source all
 
--- the path of the first element that has a dimension, or is a cluster
-abbrev pub first_dimension : List (Row Step Key) → Option (List NamedStep)
-first_dimension all = first_unbuilt Dimension all
-
 -- ---- the same in a tree, which the code walks; the law that joins the two stands in proofs/Seeking
 
 -- the names from an element up, where it is sought or one below it is
@@ -121,20 +92,13 @@ register_under key inner = (step_of register key, register_tree inner)
 abbrev pub cluster_under : Sibling → Cluster → (Step × Tree Step Key)
 cluster_under key inner = (step_of cluster key, cluster_tree inner)
 
--- a register, field or peripheral is itself sought
-abbrev pub is_sought_at : Sought → List ℕ → Option (List NamedStep) → Dim → Bool
-is_sought_at Source name derived dim = is_some derived
-is_sought_at Dimension name derived dim = is_marked name || (is_some dim.count || (is_some dim.step || is_some dim.index))
-
--- a cluster is itself sought
-abbrev pub is_sought_cluster : Sought → Option (List NamedStep) → Bool
-is_sought_cluster Source derived = is_some derived
-is_sought_cluster Dimension derived = true
+-- a peripheral, cluster, register or field is itself sought
+abbrev pub is_sought_at : Sought → Option (List NamedStep) → Bool
+is_sought_at Source derived = is_some derived
 
 -- one of a field's sets is sought
 abbrev pub is_sought_set : Sought → List Values → Bool
 is_sought_set Source sets = list_any (λ set. is_some set.derived) sets
-is_sought_set Dimension sets = false
 
 -- a passage keeps the rows of the state, whether it lets it through or hands it back
 abbrev pub KeepsRows : List (Row Step Key) → Result (List (Row Step Key)) (Back (List (Row Step Key)) UnbuiltFault) → Type 0

@@ -12,7 +12,7 @@ use std::alloc::Global;
 use svd_values::{DimIndex, Words};
 
 /// The same text once more. The bytes of a text are UTF-8, so memory alone can be wanting.
-fn copied_text(alloc: Global, text: &Text) -> Result<Text, NoMemory>
+pub fn copied_text(alloc: Global, text: &Text) -> Result<Text, NoMemory>
     ensures { IfOk result (λ made. made ≡ text.now) }
 {
     match Text::new(alloc, text.as_str().as_bytes()) {
@@ -21,7 +21,8 @@ fn copied_text(alloc: Global, text: &Text) -> Result<Text, NoMemory>
     }
 }
 
-fn copied_name(alloc: Global, name: &Option<Name>) -> Result<Option<Name>, NoMemory>
+/// The same name once more, where there is one.
+pub fn copied_name(alloc: Global, name: &Option<Name>) -> Result<Option<Name>, NoMemory>
     ensures { IfOk result (λ made. made ≡ name.now) }
 {
     match name {
@@ -52,7 +53,8 @@ fn copied_steps(alloc: Global, path: &Path) -> Result<Path, NoMemory>
     Ok(made)
 }
 
-fn copied_path(alloc: Global, path: &Option<Path>) -> Result<Option<Path>, NoMemory>
+/// The same path once more, where there is one.
+pub fn copied_path(alloc: Global, path: &Option<Path>) -> Result<Option<Path>, NoMemory>
     ensures { IfOk result (λ made. made ≡ path.now) }
 {
     match path {
@@ -99,7 +101,8 @@ fn copied_index_if_stated(
     }
 }
 
-fn copied_dim(alloc: Global, dim: &Dim) -> Result<Dim, NoMemory>
+/// The same dimension once more.
+pub fn copied_dim(alloc: Global, dim: &Dim) -> Result<Dim, NoMemory>
     ensures { IfOk result (λ made. made ≡ dim.now) }
 {
     Ok(Dim {
@@ -134,7 +137,8 @@ fn copied_set(alloc: Global, set: &Values) -> Result<Values, NoMemory>
     })
 }
 
-fn copied_sets(alloc: Global, sets: &[Values]) -> Result<Vec<Values>, NoMemory>
+/// The same sets of enumerated values once more.
+pub fn copied_sets(alloc: Global, sets: &[Values]) -> Result<Vec<Values>, NoMemory>
     ensures { IfOk result (λ made. map set_tree made.items ≡ map set_tree sets.now) }
 {
     let mut made = Vec::new(alloc);

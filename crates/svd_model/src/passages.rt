@@ -1,13 +1,12 @@
-ghost use Rattle.std.specs.Prelude.{◌≡◌, ◌++◌, ◌∷◌, [], not, map, reverse, option_map, is_some, IfOk};
-ghost use Rattle.std.specs.List.{list_all, list_any};
-ghost use Rattle.pac_base.specs.Names.{is_word_byte};
+ghost use Rattle.std.specs.Prelude.{◌≡◌, ◌++◌, ◌∷◌, [], map, reverse, option_map, is_some, IfOk};
+ghost use Rattle.std.specs.List.{list_any};
 ghost use Rattle.svd_model.specs.Trees.{item_under, field_under, peripheral_under, device_rows};
-ghost use Rattle.svd_model.specs.Unbuilt.{first_source, first_dimension, first_unbuilt, first_way, way_to, is_marked, is_sought_at, is_sought_cluster, is_sought_set, plain_step, register_under, cluster_under, KeepsRows, PassesUnless};
+ghost use Rattle.svd_model.specs.Unbuilt.{first_source, first_unbuilt, first_way, way_to, is_sought_at, is_sought_set, plain_step, register_under, cluster_under, KeepsRows, PassesUnless};
 ghost use Rattle.svd_rows.specs.Forest.{siblings};
 
-use crate::device::{Child, Cluster, Device, Dim, Field, Item, Peripheral, Register, Values};
+use crate::device::{Child, Cluster, Device, Field, Item, Peripheral, Register, Values};
 use crate::sibling::Sibling;
-use crate::states::{Derived, Described, Patched, Unfolded};
+use crate::states::{Derived, Described, Patched};
 use indexmap::IndexMap;
 use pac_base::{Back, Name, NoMemory, Path, Seq, Step};
 use std::alloc::Global;
@@ -29,8 +28,6 @@ pub enum UnbuiltFault {
 pub enum Sought {
     /// Those that are derived from another.
     Source,
-    /// Those with a key of dimensions or a mark in their name, and clusters.
-    Dimension,
 }
 
 impl Patched {
@@ -63,47 +60,13 @@ impl Derived {
     }
 }
 
-impl Unfolded {
-    /// The device in which nothing is to be unfolded. `Unbuilt` tells the first element that states a key of
-    /// dimensions, holds `%s` in its name, or is a cluster.
-    pub fn of(alloc: Global, state: Derived) -> Result<Unfolded, Back<Derived, UnbuiltFault>>
-        ensures rows { KeepsRows state result }
-        ensures cause { PassesUnless (first_dimension state) result }
-    {
-        match unbuilt(alloc, Sought::Dimension, state.device()) {
-            Ok(None) => Ok(Unfolded::new(state.into_device())),
-            Ok(Some(path)) => Err(Back {
-                state,
-                fault: UnbuiltFault::Unbuilt { path },
-            }),
-            Err(NoMemory) => Err(Back {
-                state,
-                fault: UnbuiltFault::Memory,
-            }),
-        }
-    }
-}
-
 impl Sought {
-    /// Whether a peripheral, register or field is itself sought.
-    fn is_at(self, name: &Name, derived: &Option<Path>, dim: &Dim) -> bool
-        ensures { result ≡ is_sought_at self name.now derived.now dim.now }
+    /// Whether a peripheral, cluster, register or field is itself sought.
+    fn is_at(self, derived: &Option<Path>) -> bool
+        ensures { result ≡ is_sought_at self derived.now }
     {
         match self {
             Sought::Source => derived.is_some(),
-            Sought::Dimension => {
-                is_marked(name) || dim.count.is_some() || dim.step.is_some() || dim.index.is_some()
-            }
-        }
-    }
-
-    /// Whether a cluster is itself sought.
-    fn is_at_cluster(self, derived: &Option<Path>) -> bool
-        ensures { result ≡ is_sought_cluster self derived.now }
-    {
-        match self {
-            Sought::Source => derived.is_some(),
-            Sought::Dimension => true,
         }
     }
 
@@ -113,7 +76,6 @@ impl Sought {
     {
         match self {
             Sought::Source => is_any_derived(sets),
-            Sought::Dimension => false,
         }
     }
 }
@@ -128,26 +90,6 @@ fn is_any_derived(sets: &[Values]) -> bool
         }
     }
     false
-}
-
-/// Whether the name holds the mark `%s`.
-fn is_marked(name: &Name) -> bool
-    ensures { result ≡ is_marked name.now }
-{
-    !is_word(name.bytes())
-}
-
-/// Whether all bytes are letters, digits or `_`.
-fn is_word(bytes: &[u8]) -> bool
-    ensures { result ≡ list_all is_word_byte bytes.now }
-{
-    bytes.iter().all(|byte| is_word_byte(*byte))
-}
-
-fn is_word_byte(byte: u8) -> bool
-    ensures { result ≡ is_word_byte byte }
-{
-    matches!(byte, b'A'..=b'Z' | b'a'..=b'z' | b'0'..=b'9' | b'_')
 }
 
 /// The path of the first element that is sought.
@@ -221,7 +163,7 @@ fn way_to_peripheral(
 ) -> Result<Option<Vec<Name>>, NoMemory>
     ensures { IfOk result (λ way. option_map (λ made. made.items) way ≡ way_to sought (peripheral_under (key.now, peripheral.now))) }
 {
-    if sought.is_at(&key.name, &peripheral.derived, &peripheral.dim) {
+    if sought.is_at(&peripheral.derived) {
         return Ok(Some(way_from(alloc, &key.name)?));
     }
     let below = way_to_items(alloc, sought, peripheral.children.as_slice())?;
@@ -263,7 +205,7 @@ fn way_to_cluster(
 ) -> Result<Option<Vec<Name>>, NoMemory>
     ensures { IfOk result (λ way. option_map (λ made. made.items) way ≡ way_to sought (cluster_under key.now cluster.now)) }
 {
-    if sought.is_at_cluster(&cluster.derived) {
+    if sought.is_at(&cluster.derived) {
         return Ok(Some(way_from(alloc, &key.name)?));
     }
     let below = way_to_items(alloc, sought, cluster.children.as_slice())?;
@@ -278,7 +220,7 @@ fn way_to_register(
 ) -> Result<Option<Vec<Name>>, NoMemory>
     ensures { IfOk result (λ way. option_map (λ made. made.items) way ≡ way_to sought (register_under key.now register.now)) }
 {
-    if sought.is_at(&key.name, &register.derived, &register.dim) {
+    if sought.is_at(&register.derived) {
         return Ok(Some(way_from(alloc, &key.name)?));
     }
     let below = way_to_fields(alloc, sought, &register.fields)?;
@@ -308,7 +250,7 @@ fn way_to_field(
 ) -> Result<Option<Vec<Name>>, NoMemory>
     ensures { IfOk result (λ way. option_map (λ made. made.items) way ≡ way_to sought (field_under (key.now, field.now))) }
 {
-    if sought.is_at(&key.name, &field.derived, &field.dim) {
+    if sought.is_at(&field.derived) {
         return Ok(Some(way_from(alloc, &key.name)?));
     }
     if sought.is_at_set(field.values.as_slice()) {

@@ -1,17 +1,12 @@
 -- Each child fits, and each member of it; and their rows are those that the walk meets.
-use Rattle.std.proofs.Common.{◌≡◌, ℕ, List, Option, ◌++◌, ◌∷◌, [], ◌+◌, map, drop, sym, ap, ap₂, ◌∙◌, subst, append_assoc, append-nil, arith, rules}
-use Rattle.std.specs.List.{flat_map, range_with_len}
+use Rattle.std.proofs.Common.{ℕ, List, Option, ◌++◌, ◌∷◌, [], ◌+◌, map, drop, sym, ap, ap₂, ◌∙◌, subst, append_assoc, append-nil, arith}
 use Rattle.std.proofs.lemmas.Result.{on_ok_weaker}
 use Rattle.reg_table.specs.Walk.{FitIn, IsAmong, index_at, member_rows, rows_in}
-use Rattle.svd_model.specs.declared.device.Cluster.{out-Cluster}
-use Rattle.svd_model.specs.declared.device.Item.{Item}
 use Rattle.svd_model.specs.Keys.{Key}
-use Rattle.svd_model.specs.Stating.{value_of, stated_dim}
 use Rattle.svd_model.specs.Steps.{Step}
 use Rattle.svd_model.specs.Trees.{item_under}
 use Rattle.svd_rows.specs.Forest.{Tree, siblings}
 use Rattle.svd_model.proofs.SoughtKeys.{from_place, drop_past}
-use Rattle.svd_model.proofs.Trees.{item_under-is}
 use Rattle.reg_table.proofs.Walks.{rows-nothing, rows-first, all-members, numbered-more, cluster-child, register-child, cluster-count, register-count}
 use Rattle.reg_table.proofs.table_rows.+walk.Goals as goal
 

@@ -9,14 +9,14 @@ use Rattle.svd_model.proofs.SoughtKeys.{first_way-found, first_way-passed, first
 use Rattle.svd_model.proofs.Trees.{child_tree-cluster, child_tree-register, item_under-is, cluster_tree-below}
 use Rattle.svd_model.proofs.passages.+seek.Goals as goal
 
-pub way_to_cluster-returns-then-is_at_cluster : goal.way_to_cluster-returns-then-is_at_cluster
-way_to_cluster-returns-then-is_at_cluster t c =
-    ap Some c.in_ok-way_from.ensures ∙ sym (way_to-here c.args.sought (cluster_under c.args.key.now c.args.cluster.now) (cluster-here c.args.sought c.args.key.now c.args.cluster.now ∙ sym c.is_at_cluster.ensures ∙ c.if-is_at_cluster.true))
+pub way_to_cluster-returns-then-is_at : goal.way_to_cluster-returns-then-is_at
+way_to_cluster-returns-then-is_at t c =
+    ap Some c.in_ok-way_from.ensures ∙ sym (way_to-here c.args.sought (cluster_under c.args.key.now c.args.cluster.now) (cluster-here c.args.sought c.args.key.now c.args.cluster.now ∙ sym c.is_at.ensures ∙ c.if-is_at.true))
 
 pub way_to_cluster-returns : goal.way_to_cluster-returns
 way_to_cluster-returns t c =
     let below = c.in_ok-below.ensures ∙ ap (λ items. first_way c.args.sought (siblings (map item_under items))) c.as_slice.ensures.value ∙ sym (ap (first_way c.args.sought) (cluster_tree-below c.args.cluster.now)) in
-    rw (way_to-below c.args.sought (cluster_under c.args.key.now c.args.cluster.now) (cluster-here c.args.sought c.args.key.now c.args.cluster.now ∙ sym c.is_at_cluster.ensures ∙ c.if-is_at_cluster.false), ← below) c.way_through.ensures
+    rw (way_to-below c.args.sought (cluster_under c.args.key.now c.args.cluster.now) (cluster-here c.args.sought c.args.key.now c.args.cluster.now ∙ sym c.is_at.ensures ∙ c.if-is_at.false), ← below) c.way_through.ensures
 
 pub way_to_item-returns-in-Cluster : goal.way_to_item-returns-in-Cluster
 way_to_item-returns-in-Cluster t c =

@@ -1,0 +1,13 @@
+pub mod Stated
+pub mod Firsts
+pub mod Counting
+pub mod Groups
+pub mod Growing
+pub mod Keyed
+pub mod Flat
+pub mod Words
+pub mod Element
+pub mod Fine
+pub mod Totals
+pub mod FirstFault
+pub mod Whole

@@ -1,0 +1,9 @@
+pub mod Marks
+pub mod Indexes
+pub mod Causes
+pub mod Unfolding
+pub mod Faults
+pub mod Walks
+pub mod Tallies
+pub mod Groups
+pub mod Worked
