@@ -349,10 +349,5 @@ fn too_many_registers(rt: HostRuntime) -> Result<(), Fail> {
         &rt,
         "<cluster><name>C[%s]</name><addressOffset>0</addressOffset><dim>5</dim><dimIncrement>0x40000</dimIncrement><register><name>R[%s]</name><addressOffset>0</addressOffset><dim>65536</dim><dimIncrement>4</dimIncrement></register></cluster>",
     )?;
-    refuses_with(
-        &rt,
-        description.as_str(),
-        11,
-        "too many registers: 327680",
-    )
+    refuses_with(&rt, description.as_str(), 11, "too many registers: 327680")
 }

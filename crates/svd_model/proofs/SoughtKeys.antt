@@ -76,6 +76,7 @@ first_places Source derived dim places placed =
     ∙ skip_key is_derived dim_index dim.index places (λ _. refl)
     ∙ later_none is_derived 5 places late-source placed)
     ∙ or_false (is_some derived)
+
 behind_five : (a b c d e : Option Key) (places : List (Option Key)) → IsPlaced rank 0 (a ∷ b ∷ c ∷ d ∷ e ∷ places) → IsPlaced rank 5 places
 behind_five a b c d e places h =
     placed_behind 4 e places (placed_behind 3 d (e ∷ places) (placed_behind 2 c (d ∷ e ∷ places) (placed_behind 1 b (c ∷ d ∷ e ∷ places) (placed_behind 0 a (b ∷ c ∷ d ∷ e ∷ places) h))))
