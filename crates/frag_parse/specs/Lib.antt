@@ -1,8 +1,7 @@
-pub mod FixedWords
-pub mod Tokens
-pub mod Groups
-pub mod Statements
-pub mod ScriptLines
-pub mod Fronts
+pub mod Nesting
+pub mod Parsing
+pub mod Phrases
 pub mod Reading
-pub mod Telling
+pub mod Shrinking
+pub mod Depth
+pub mod Survey

@@ -1,402 +1,601 @@
--- Reading the tokens of a statement from left to right: what each function of the reader gives, on lists.
-use Rattle.std.specs.Prelude.{ℕ, zero, suc, ◌≡◌, ◌+◌, nat_le, Bool, true, false, ◌==◌, List, [], ◌∷◌, ◌++◌, length, Option, Some, None, Result, Ok, Err, if◌then◌else◌}
+-- Reading the words of a crate text from left to right: what each function of the reader gives, on lists.
+use Rattle.std.specs.Prelude.{ℕ, zero, suc, ◌≡◌, ◌<◌, Bool, true, false, not, ◌&&◌, List, [], ◌∷◌, length, drop, Option, Some, None, Result, Ok, Err, if◌then◌else◌}
 use Rattle.std.specs.Str.{bytes_eq}
 use Rattle.text_scan.specs.Steps.{◌>>=◌}
 use Rattle.frag_words.specs.Words.{Word}
+use Rattle.frag_words.specs.Readings.{among, word_is}
+use Rattle.text_scan.specs.Numbers.{value_of}
 use Rattle.frag_tree.specs.Identifiers.{is_identifier}
-use Rattle.frag_tree.specs.declared.script.ScriptLine.{ScriptLine}
-use Rattle.frag_tree.specs.declared.statement.Atom.{Atom}
-use Rattle.frag_tree.specs.declared.statement.Atom.TheVariants as atom
-use Rattle.frag_tree.specs.declared.statement.Link.{Link}
-use Rattle.frag_tree.specs.declared.statement.Link.TheVariants as link
-use Rattle.frag_tree.specs.declared.statement.Place.{Place}
-use Rattle.frag_tree.specs.declared.statement.PlaceStep.{PlaceStep}
-use Rattle.frag_tree.specs.declared.statement.Source.{Source}
-use Rattle.frag_tree.specs.declared.statement.Source.TheVariants as source
-use Rattle.frag_tree.specs.declared.statement.Statement.{Statement}
-use Rattle.frag_tree.specs.declared.statement.Statement.TheVariants as statement
-use Rattle.frag_tree.specs.declared.statement.Value.{Value}
+use Rattle.frag_tree.specs.Numerals.{decimal_word, hexadecimal_word, truth_word, width_word}
+use Rattle.frag_tree.specs.Registers.{kind_word}
+use Rattle.frag_tree.specs.ModuleProductions.{modules_reading, read_blocks}
+use Rattle.frag_tree.specs.Productions.{access_reading, field_reading, numeral_at, slot_reading}
+use Rattle.frag_tree.specs.RegisterProductions.{marker_reading, number_test, number_write, reader_reading, truth_test, truth_write, values_reading, writer_reading}
+use Rattle.frag_tree.specs.Trees.{BlockHead, BlockTree, CrateTree, ModuleTree, one_block, one_register}
+use Rattle.frag_tree.specs.declared.access.Access.{Access}
+use Rattle.frag_tree.specs.declared.access.Body.{Body}
+use Rattle.frag_tree.specs.declared.access.Body.TheVariants as body
+use Rattle.frag_tree.specs.declared.block.Element.{Element}
+use Rattle.frag_tree.specs.declared.block.Element.TheVariants as element
+use Rattle.frag_tree.specs.declared.block.FieldType.{FieldType}
+use Rattle.frag_tree.specs.declared.block.FieldType.TheVariants as holds
+use Rattle.frag_tree.specs.declared.block.StructField.{StructField}
+use Rattle.frag_tree.specs.declared.krate.Slot.{Slot}
+use Rattle.frag_tree.specs.declared.register.BitKind.{BitKind}
+use Rattle.frag_tree.specs.declared.register.BitKind.TheVariants as kind
+use Rattle.frag_tree.specs.declared.register.Constant.{Constant}
+use Rattle.frag_tree.specs.declared.register.NumberCall.{NumberCall}
+use Rattle.frag_tree.specs.declared.register.ReadForm.TheVariants as read_form
+use Rattle.frag_tree.specs.declared.register.Reader.{Reader}
+use Rattle.frag_tree.specs.declared.register.RegisterModule.{RegisterModule}
+use Rattle.frag_tree.specs.declared.register.TruthCall.{TruthCall}
+use Rattle.frag_tree.specs.declared.register.Values.{Values}
+use Rattle.frag_tree.specs.declared.register.Values.TheVariants as values
+use Rattle.frag_tree.specs.declared.register.Writable.{Writable}
+use Rattle.frag_tree.specs.declared.register.WriteForm.TheVariants as write_form
+use Rattle.frag_tree.specs.declared.register.Writer.{Writer}
 use Rattle.pac_base.specs.declared.width.Width.{Width}
 use Rattle.pac_base.specs.declared.width.Width.TheVariants.{W8, W16, W32, W64}
-use Rattle.frag_parse.specs.declared.closure.Parameters.{Parameters}
-use Rattle.frag_parse.specs.declared.closure.Parameters.TheVariants.{Writer, ReaderAndWriter}
-use Rattle.frag_parse.specs.declared.fault.LineFault.{LineFault}
-use Rattle.frag_parse.specs.declared.fault.LineFault.TheVariants.{NotAStatement, Memory}
-use Rattle.frag_parse.specs.declared.fixed.Fixed.{Fixed}
-use Rattle.frag_parse.specs.declared.fixed.Fixed.TheVariants.{Let, Say, Read, Write, WriteWithZero, Modify, Reset, Bits, As, ReaderName, WriterName, NoName, Truth, NumberType, Equals, Dot, Comma, Bar, Negation, Opener, Closer, Semicolon}
-use Rattle.frag_parse.specs.declared.part.Part.{Part}
-use Rattle.frag_parse.specs.declared.part.Part.TheVariants.{Item, End}
-use Rattle.frag_parse.specs.declared.place.Ending.{Ending}
-use Rattle.frag_parse.specs.declared.place.Ending.TheVariants.{Plain, Closure}
-use Rattle.frag_parse.specs.FixedWords.{text_of}
-use Rattle.frag_parse.specs.ScriptLines.{line_tokens, lines_of, put_at}
-use Rattle.frag_parse.specs.Tokens.{Token, number, plain}
+use Rattle.frag_parse.specs.declared.fault.Stop.{Stop}
+use Rattle.frag_parse.specs.declared.fault.Stop.TheVariants.{Unfit, Memory}
+use Rattle.frag_parse.specs.declared.phrase.Phrase.{Phrase}
+use Rattle.frag_parse.specs.declared.phrase.Phrase.TheVariants as phrase
+use Rattle.frag_parse.specs.declared.phrase.Sign.{Sign}
+use Rattle.frag_parse.specs.declared.phrase.Sign.TheVariants as sign
+use Rattle.frag_parse.specs.Phrases.{words_of, sign_word}
 
 -- Reading gives nothing, or memory ran out.
-abbrev pub Fails : {Y : Type 0} → LineFault → Option Y → Type 0
-Fails NotAStatement read = read ≡ None
+abbrev pub Fails : {Y : Type 0} → Stop → Option Y → Type 0
+Fails (Unfit left) read = read ≡ None
 Fails Memory read = Unit {0}
 
 -- What a function returned, seen by `view`, is what reading gives, unless memory ran out.
-abbrev pub Gives : {X Y : Type 0} → (X → Y) → Result X LineFault → Option Y → Type 0
+abbrev pub Gives : {X Y : Type 0} → (X → Y) → Result X Stop → Option Y → Type 0
 Gives view (Ok x) read = read ≡ Some (view x)
-Gives view (Err fault) read = Fails fault read
+Gives view (Err stop) read = Fails stop read
 
 -- what was read at the front of a text, and what follows it
 abbrev pub Found : Type 0 → Type 0
-Found A = Option (A × List Token)
+Found A = Option (A × List Word)
 
--- ---- one token
+-- ---- words
 
-abbrev pub is_fixed : Fixed → Token → Bool
-is_fixed word (number value) = false
-is_fixed word (plain text) = bytes_eq text (text_of word)
+-- the first word, and what follows it
+unfoldable pub first_at : List Word → Found Word
+first_at [] = None
+first_at (first ∷ others) = Some (first, others)
 
-unfoldable pub expects : Fixed → List Token → Option (List Token)
-expects word [] = None
-expects word (token ∷ rest) = if is_fixed word token then Some rest else None
+-- what follows this word
+unfoldable pub word_then : Word → List Word → Option (List Word)
+word_then word text = first_at text >>= λ first. if bytes_eq word first.0 then Some first.1 else None
 
-abbrev pub name_of : Token → List Token → Found Word
-name_of (number value) rest = None
-name_of (plain word) rest = if is_identifier word then Some (word, rest) else None
+-- what follows these words
+unfoldable pub expects : List Word → List Word → Option (List Word)
+expects [] text = Some text
+expects (word ∷ words) text = word_then word text >>= λ rest. expects words rest
 
-unfoldable pub name_at : List Token → Found Word
-name_at [] = None
-name_at (token ∷ rest) = name_of token rest
+-- what follows a fixed text
+unfoldable pub phrase_at : Phrase → List Word → Option (List Word)
+phrase_at fixed text = expects (words_of fixed) text
 
-abbrev pub value_of : Token → List Token → Found ℕ
-value_of (number value) rest = Some (value, rest)
-value_of (plain word) rest = None
+-- what follows one word
+unfoldable pub sign_then : Sign → List Word → Option (List Word)
+sign_then word text = word_then (sign_word word) text
 
-unfoldable pub number_at : List Token → Found ℕ
-number_at [] = None
-number_at (token ∷ rest) = value_of token rest
+-- the word stands at a place
+unfoldable pub sign_at : ℕ → Sign → List Word → Bool
+sign_at n word text = word_is n (sign_word word) text
 
--- `( )`
-unfoldable pub empty_at : List Token → Option (List Token)
-empty_at text = do
-  inside ← expects Opener text
-  expects Closer inside
+-- an `impl` block of this kind begins
+unfoldable pub impl_at : Sign → List Word → Bool
+impl_at word text = sign_at 0 sign.Impl text && sign_at 1 word text
 
--- ---- runs: items, and what ends them
+-- the word, where it is an identifier
+unfoldable pub name_of : Word → Option Word
+name_of word = if is_identifier word then Some word else None
 
-abbrev pub gone_on : {X E : Type 0} → Part X E → List Token → (List Token → Found (List X × E)) → Found (List X × E)
-gone_on (End end) rest others = Some (([], end), rest)
-gone_on (Item item) rest others = others rest >>= λ more. Some ((item ∷ more.0.0, more.0.1), more.1)
+unfoldable pub name_at : List Word → Found Word
+name_at text = do
+  first ← first_at text
+  name ← name_of first.0
+  Some (name, first.1)
 
--- a run of at most so many parts
-unfoldable pub run_up_to : {X E : Type 0} → (List Token → Found (Part X E)) → ℕ → List Token → Found (List X × E)
-run_up_to part_at zero text = None
-run_up_to part_at (suc most) text = part_at text >>= λ part. gone_on part.0 part.1 (run_up_to part_at most)
+-- the number of which the word is the numeral
+unfoldable pub hexadecimal_of : Word → Option ℕ
+hexadecimal_of word = numeral_at hexadecimal_word (value_of 16 (drop 2 word)) word
 
--- a run: no part is empty, so a text has no more than tokens
-unfoldable pub run_at : {X E : Type 0} → (List Token → Found (Part X E)) → List Token → Found (List X × E)
-run_at part_at text = run_up_to part_at (length text) text
+unfoldable pub decimal_of : Word → Option ℕ
+decimal_of word = numeral_at decimal_word (value_of 10 word) word
 
--- ---- places
+unfoldable pub hexadecimal_at : List Word → Found ℕ
+hexadecimal_at text = do
+  first ← first_at text
+  number ← hexadecimal_of first.0
+  Some (number, first.1)
 
--- `NUMBER )`
-unfoldable pub index_at : List Token → Found ℕ
-index_at text = do
-  index ← number_at text
-  rest ← expects Closer index.1
-  Some (index.0, rest)
+unfoldable pub decimal_at : List Word → Found ℕ
+decimal_at text = do
+  first ← first_at text
+  number ← decimal_of first.0
+  Some (number, first.1)
 
--- behind `. ID ( )`: with `;` it ends the place
-abbrev pub closed_call : Word → Option (List Token) → List Token → Found (Part PlaceStep Ending)
-closed_call name (Some rest) text = Some (End (Plain name), rest)
-closed_call name None text = Some (Item (record { name = name; index = None }), text)
+-- the width, truth or kind whose word it is
+unfoldable pub width_of : Word → Option Width
+width_of word = among width_word (W8 ∷ W16 ∷ W32 ∷ W64 ∷ []) word
 
--- behind `. ID (`
-abbrev pub opened_call : Word → Option (List Token) → List Token → Found (Part PlaceStep Ending)
-opened_call name (Some rest) text = closed_call name (expects Semicolon rest) rest
-opened_call name None text = do
-  index ← index_at text
-  Some (Item (record { name = name; index = Some index.0 }), index.1)
+unfoldable pub truth_of : Word → Option Bool
+truth_of word = among truth_word (true ∷ false ∷ []) word
 
--- behind `. ID (`: with `|` it ends the place
-abbrev pub any_call : Word → Option (List Token) → List Token → Found (Part PlaceStep Ending)
-any_call name (Some rest) text = Some (End (Closure name), rest)
-any_call name None text = opened_call name (expects Closer text) text
+unfoldable pub kind_of : Word → Option BitKind
+kind_of word = among kind_word (kind.Plain ∷ kind.OneToSet ∷ kind.ZeroToClear ∷ kind.OneToClear ∷ kind.ZeroToSet ∷ kind.OneToToggle ∷ kind.ZeroToToggle ∷ []) word
 
-unfoldable pub call_at : List Token → Found (Part PlaceStep Ending)
-call_at text = do
-  rest ← expects Dot text
-  name ← name_at rest
-  inside ← expects Opener name.1
-  any_call name.0 (expects Bar inside) inside
+unfoldable pub width_at : List Word → Found Width
+width_at text = do
+  first ← first_at text
+  width ← width_of first.0
+  Some (width, first.1)
 
--- a place, and the call that ends it
-unfoldable pub place_at : List Token → Found (Place × Ending)
-place_at text = do
-  slot ← name_at text
-  run ← run_at call_at slot.1
-  if length run.0.0 == 0 then None else Some ((record { slot = slot.0; steps = run.0.0 }, run.0.1), run.1)
+unfoldable pub truth_at : List Word → Found Bool
+truth_at text = do
+  first ← first_at text
+  truth ← truth_of first.0
+  Some (truth, first.1)
 
--- ---- values
+unfoldable pub kind_at : List Word → Found BitKind
+kind_at text = do
+  first ← first_at text
+  which ← kind_of first.0
+  Some (which, first.1)
 
-abbrev pub source_of : Word → Word → Option (List Token) → List Token → Found Source
-source_of reader field (Some behind) rest = do
-  method ← name_at behind
-  end ← empty_at method.1
-  Some (source.Field reader field method.0, end)
-source_of reader field None rest = if bytes_eq field (text_of Bits) then Some (source.Bits reader, rest) else None
-
-unfoldable pub source_at : List Token → Found Source
-source_at text = do
-  reader ← name_at text
-  behind ← expects Dot reader.1
-  field ← name_at behind
-  rest ← empty_at field.1
-  source_of reader.0 field.0 (expects Dot rest) rest
-
-abbrev pub tried : {A : Type 0} → A → Option (List Token) → Found A → Found A
-tried value (Some rest) other = Some (value, rest)
-tried value None other = other
-
-unfoldable pub truth_at : List Token → Found Bool
-truth_at text = tried true (expects (Truth true) text) (tried false (expects (Truth false) text) None)
-
-unfoldable pub width_at : List Token → Found Width
-width_at text =
-    tried W8 (expects (NumberType W8) text) (tried W16 (expects (NumberType W16) text) (tried W32 (expects (NumberType W32) text) (tried W64 (expects (NumberType W64) text) None)))
-
-abbrev pub cast_of : Source → Option (List Token) → List Token → Found Atom
-cast_of read (Some behind) rest = do
-  width ← width_at behind
-  Some (atom.Cast read width.0, width.1)
-cast_of read None rest = Some (atom.Source read, rest)
-
-unfoldable pub source_atom_at : List Token → Found Atom
-source_atom_at text = do
-  read ← source_at text
-  cast_of read.0 (expects As read.1) read.1
-
-abbrev pub truth_or_source : Found Bool → List Token → Found Atom
-truth_or_source (Some found) text = Some (atom.Truth found.0, found.1)
-truth_or_source None text = source_atom_at text
-
-abbrev pub number_or_other : Found ℕ → List Token → Found Atom
-number_or_other (Some found) text = Some (atom.Number found.0, found.1)
-number_or_other None text = truth_or_source (truth_at text) text
-
-unfoldable pub atom_at : List Token → Found Atom
-atom_at text = number_or_other (number_at text) text
-
--- how many `!` stand in front
-unfoldable pub negations : List Token → ℕ
-negations [] = 0
-negations (token ∷ rest) = if is_fixed Negation token then suc (negations rest) else 0
-
-unfoldable pub after_negations : List Token → List Token
-after_negations [] = []
-after_negations (token ∷ rest) = if is_fixed Negation token then after_negations rest else token ∷ rest
-
-abbrev pub negations_at : List Token → Found ℕ
-negations_at text = Some (negations text, after_negations text)
-
-unfoldable pub value_at : List Token → Found Value
-value_at text = do
-  count ← negations_at text
-  found ← atom_at count.1
-  Some (record { negations = count.0; atom = found.0 }, found.1)
-
--- ---- chains
-
--- `VALUE )`
-unfoldable pub closed_value_at : List Token → Found Value
-closed_value_at text = do
-  value ← value_at text
-  rest ← expects Closer value.1
-  Some (value.0, rest)
-
-abbrev pub argument_of : Option (List Token) → List Token → Found (Option Value)
-argument_of (Some rest) inside = Some (None, rest)
-argument_of None inside = do
-  value ← closed_value_at inside
-  Some (Some value.0, value.1)
-
-unfoldable pub argument_at : List Token → Found (Option Value)
-argument_at text = do
-  inside ← expects Opener text
-  argument_of (expects Closer inside) inside
-
--- behind `. ID ( )`
-unfoldable pub field_link_at : Word → List Token → Found Link
-field_link_at field text = do
-  behind ← expects Dot text
-  method ← name_at behind
-  value ← argument_at method.1
-  Some (link.Field field method.0 value.0, value.1)
-
--- behind `. ID (`, which no `)` follows
-unfoldable pub bits_link_at : Word → List Token → Found Link
-bits_link_at name text =
-    if bytes_eq name (text_of Bits) then (closed_value_at text >>= λ value. Some (link.Bits value.0, value.1)) else None
-
-abbrev pub link_of : Word → Option (List Token) → List Token → Found Link
-link_of name (Some rest) inside = field_link_at name rest
-link_of name None inside = bits_link_at name inside
-
-unfoldable pub link_at : List Token → Found Link
-link_at text = do
-  behind ← expects Dot text
-  name ← name_at behind
-  inside ← expects Opener name.1
-  link_of name.0 (expects Closer inside) inside
-
-abbrev pub chain_part_of : Option (List Token) → List Token → Found (Part Link (Unit {0}))
-chain_part_of (Some rest) text = Some (End tt, rest)
-chain_part_of None text = do
-  found ← link_at text
-  Some (Item found.0, found.1)
-
--- a link, or the `)` that ends the chain
-unfoldable pub chain_part_at : List Token → Found (Part Link (Unit {0}))
-chain_part_at text = chain_part_of (expects Closer text) text
-
--- `CHAIN )`
-unfoldable pub chain_at : List Token → Found (List Link)
-chain_at text = do
-  behind ← expects WriterName text
-  run ← run_at chain_part_at behind
-  Some (run.0.0, run.1)
-
--- ---- closures
-
--- behind the name of the reader
-unfoldable pub both_at : Bool → List Token → Found Parameters
-both_at names_reader text = do
-  behind ← expects Comma text
-  rest ← expects WriterName behind
-  Some (ReaderAndWriter names_reader, rest)
-
-abbrev pub reader_of : Option (List Token) → List Token → Found Parameters
-reader_of (Some rest) text = both_at true rest
-reader_of None text = expects NoName text >>= both_at false
-
-abbrev pub writer_of : Option (List Token) → List Token → Found Parameters
-writer_of (Some rest) text = Some (Writer, rest)
-writer_of None text = reader_of (expects ReaderName text) text
-
-unfoldable pub parameters_at : List Token → Found Parameters
-parameters_at text = writer_of (expects WriterName text) text
-
--- `PARAMETERS | CHAIN ) ;`
-unfoldable pub closure_at : List Token → Found (Parameters × List Link)
-closure_at text = do
-  parameters ← parameters_at text
-  behind ← expects Bar parameters.1
-  chain ← chain_at behind
-  rest ← expects Semicolon chain.1
-  Some ((parameters.0, chain.0), rest)
-
--- ---- statements
-
-abbrev pub written : Place → Word → Parameters → List Link → Option Statement
-written place call Writer chain =
-    if bytes_eq call (text_of Write) then Some (statement.Write place chain) else (if bytes_eq call (text_of WriteWithZero) then Some (statement.WriteWithZero place chain) else None)
-written place call (ReaderAndWriter names_reader) chain =
-    if bytes_eq call (text_of Modify) then Some (statement.Modify place names_reader chain) else None
-
--- what ends a place makes of it a statement
-abbrev pub operation_of : Place → Ending → List Token → Found Statement
-operation_of place (Plain call) text = if bytes_eq call (text_of Reset) then Some (statement.Reset place, text) else None
-operation_of place (Closure call) text = do
-  closure ← closure_at text
-  found ← written place call closure.0.0 closure.0.1
-  Some (found, closure.1)
-
-unfoldable pub operation_at : List Token → Found Statement
-operation_at text = do
-  place ← place_at text
-  operation_of place.0.0 place.0.1 place.1
-
-abbrev pub bound : Word → Place → Ending → Option Statement
-bound name place (Plain call) = if bytes_eq call (text_of Read) then Some (statement.Let name place) else None
-bound name place (Closure call) = None
-
--- behind `let`
-unfoldable pub let_at : List Token → Found Statement
-let_at text = do
-  name ← name_at text
-  behind ← expects Equals name.1
-  place ← place_at behind
-  found ← bound name.0 place.0.0 place.0.1
-  Some (found, place.1)
-
--- behind `say (`
-unfoldable pub say_at : List Token → Found Statement
-say_at text = do
-  value ← closed_value_at text
-  rest ← expects Semicolon value.1
-  Some (statement.Say value.0, rest)
-
--- `say (`
-unfoldable pub say_begun : List Token → Option (List Token)
-say_begun text = do
-  behind ← expects Say text
-  expects Opener behind
-
-abbrev pub say_or_operation : Option (List Token) → List Token → Found Statement
-say_or_operation (Some inside) text = say_at inside
-say_or_operation None text = operation_at text
-
-abbrev pub let_or_other : Option (List Token) → List Token → Found Statement
-let_or_other (Some rest) text = let_at rest
-let_or_other None text = say_or_operation (say_begun text) text
-
-unfoldable pub statement_at : List Token → Found Statement
-statement_at text = let_or_other (expects Let text) text
-
-abbrev pub is_end : List Token → Bool
+-- no word is left
+abbrev pub is_end : List Word → Bool
 is_end [] = true
-is_end (token ∷ rest) = false
+is_end (word ∷ words) = false
 
-abbrev pub ended : Statement → List Token → Option Statement
-ended found rest = if is_end rest then Some found else None
+-- ---- lists
 
--- the statement whose tokens these are
-unfoldable pub whole_statement : List Token → Option Statement
-whole_statement text = do
-  found ← statement_at text
-  ended found.0 found.1
+-- at most so many trees, as long as a test of the text says so
+unfoldable pub many_up_to : {A : Type 0} → (List Word → Bool) → (List Word → Found A) → ℕ → List Word → Found (List A)
+many_up_to begins item_at zero text = if begins text then None else Some ([], text)
+many_up_to begins item_at (suc most) text =
+    if begins text then (item_at text >>= λ one. many_up_to begins item_at most one.1 >>= λ more. Some (one.0 ∷ more.0, more.1)) else Some ([], text)
 
--- ---- lines
+-- trees, as long as a test of the text says so: none is empty, so a text has no more than words
+unfoldable pub many_at : {A : Type 0} → (List Word → Bool) → (List Word → Found A) → List Word → Found (List A)
+many_at begins item_at text = many_up_to begins item_at (length text) text
 
-unfoldable pub held_of : List Token → Option (Option Statement)
-held_of text = if is_end text then Some None else (whole_statement text >>= λ found. Some (Some found))
+-- trees, and the brace behind them
+unfoldable pub braced_at : {A : Type 0} → (List Word → Bool) → (List Word → Found A) → List Word → Found (List A)
+braced_at begins item_at text = do
+  items ← many_at begins item_at text
+  rest ← phrase_at phrase.Closer items.1
+  Some (items.0, rest)
 
--- what a line holds: no statement, or one
-unfoldable pub held_at : List ℕ → Option (Option Statement)
-held_at line = line_tokens line >>= held_of
+-- what begins with `pub`
+unfoldable pub begins_pub : List Word → Bool
+begins_pub text = sign_at 0 sign.Pub text
 
-abbrev pub behind_line : ℕ → Option (Option Statement) → Result (List ScriptLine) ℕ → Result (List ScriptLine) ℕ
-behind_line line_number None others = Err line_number
-behind_line line_number (Some held) (Ok script) = Ok (put_at line_number held script)
-behind_line line_number (Some held) (Err bad) = Err bad
+-- what begins with `impl`
+unfoldable pub begins_impl : List Word → Bool
+begins_impl text = sign_at 0 sign.Impl text
 
--- the script of lines, of which the first has this line_number; or the line_number of the first that is wrong
-unfoldable pub lines_at : ℕ → List (List ℕ) → Result (List ScriptLine) ℕ
-lines_at line_number [] = Ok []
-lines_at line_number (line ∷ lines) = behind_line line_number (held_at line) (lines_at (line_number + 1) lines)
+-- what begins with anything but the closing brace
+unfoldable pub begins_field : List Word → Bool
+begins_field text = not (sign_at 0 sign.Closer text)
 
--- the lines of what is left of a text
-abbrev pub lines_left : Option (List ℕ) → List (List ℕ)
-lines_left None = []
-lines_left (Some text) = lines_of text
+-- what is read is followed by fewer words
+abbrev pub Shrinks : {A : Type 0} → (List Word → Found A) → Type 0
+Shrinks {A} item_at = (text : List Word) (item : A) (rest : List Word) → item_at text ≡ Some (item, rest) → length rest < length text
 
--- what reading a script comes to: its statements, the first wrong line, or too many statements
-pub data Outcome : Type 0 where
-  fine : List ScriptLine → Outcome
-  faulty : ℕ → Outcome
-  too_long : ℕ → Outcome
+-- ---- slots
 
--- what it comes to where statements are kept already, and so many were met
-abbrev pub outcome : List ScriptLine → ℕ → Result (List ScriptLine) ℕ → Outcome
-outcome kept count (Ok script) = if nat_le (count + length script) 65536 then fine (kept ++ script) else too_long (count + length script)
-outcome kept count (Err bad) = faulty bad
+unfoldable pub slot_at : List Word → Found Slot
+slot_at text = do
+  rest ← phrase_at phrase.Pub text
+  name ← name_at rest
+  rest ← phrase_at phrase.OpensPeriph name.1
+  block ← name_at rest
+  rest ← phrase_at phrase.BlockThenComma block.1
+  address ← hexadecimal_at rest
+  rest ← phrase_at phrase.ClosesSlot address.1
+  Some (record { name = name.0; block = block.0; address = address.0 }, rest)
 
--- what reading a text comes to
-unfoldable pub script_at : List ℕ → Outcome
-script_at bytes = outcome [] 0 (lines_at 1 (lines_of bytes))
+-- ---- blocks
+
+unfoldable pub register_element_at : List Word → Found Element
+register_element_at text = do
+  rest ← phrase_at phrase.OpensReg text
+  unit ← name_at rest
+  rest ← phrase_at phrase.ClosesReg unit.1
+  Some (element.Register unit.0, rest)
+
+unfoldable pub block_element_at : List Word → Found Element
+block_element_at text = do
+  unit ← name_at text
+  rest ← phrase_at phrase.OfBlock unit.1
+  Some (element.Block unit.0, rest)
+
+unfoldable pub element_at : List Word → Found Element
+element_at text = if sign_at 1 sign.Less text then register_element_at text else block_element_at text
+
+unfoldable pub gap_at : List Word → Found FieldType
+gap_at text = do
+  rest ← phrase_at phrase.OpensGap text
+  bytes ← decimal_at rest
+  rest ← phrase_at phrase.ClosesArray bytes.1
+  Some (holds.Gap bytes.0, rest)
+
+unfoldable pub array_at : List Word → Found FieldType
+array_at text = do
+  rest ← phrase_at phrase.OpensArray text
+  member ← element_at rest
+  rest ← phrase_at phrase.ThenCount member.1
+  count ← decimal_at rest
+  rest ← phrase_at phrase.ClosesArray count.1
+  Some (holds.Array member.0 count.0, rest)
+
+unfoldable pub single_at : List Word → Found FieldType
+single_at text = do
+  member ← element_at text
+  Some (holds.One member.0, member.1)
+
+unfoldable pub type_at : List Word → Found FieldType
+type_at text = if sign_at 0 sign.Bracket text then (if sign_at 2 sign.Semicolon text then gap_at text else array_at text) else single_at text
+
+unfoldable pub field_at : List Word → Found StructField
+field_at text = do
+  name ← name_at text
+  rest ← phrase_at phrase.Colon name.1
+  type ← type_at rest
+  rest ← phrase_at phrase.Comma type.1
+  Some (record { name = name.0; holds = type.0 }, rest)
+
+unfoldable pub field_body_at : List Word → Found Body
+field_body_at text = do
+  rest ← phrase_at phrase.FieldOfSelf text
+  field ← name_at rest
+  rest ← phrase_at phrase.ClosesBody field.1
+  Some (body.Field field.0, rest)
+
+unfoldable pub member_body_at : List Word → Found Body
+member_body_at text = do
+  rest ← phrase_at phrase.FieldOfSelf text
+  field ← name_at rest
+  rest ← phrase_at phrase.ClosesMember field.1
+  Some (body.Member field.0, rest)
+
+unfoldable pub offset_body_at : List Word → Found Body
+offset_body_at text = do
+  rest ← phrase_at phrase.OpensAt text
+  offset ← hexadecimal_at rest
+  rest ← phrase_at phrase.ClosesCall offset.1
+  Some (body.At offset.0, rest)
+
+unfoldable pub strided_body_at : List Word → Found Body
+strided_body_at text = do
+  rest ← phrase_at phrase.OpensAtIndex text
+  offset ← hexadecimal_at rest
+  rest ← phrase_at phrase.ThenNext offset.1
+  stride ← decimal_at rest
+  rest ← phrase_at phrase.ThenNext stride.1
+  count ← decimal_at rest
+  rest ← phrase_at phrase.ClosesAtIndex count.1
+  Some (body.AtIndex offset.0 stride.0 count.0, rest)
+
+unfoldable pub own_body_at : List Word → Found Body
+own_body_at text = if sign_at 4 sign.Closer text then field_body_at text else member_body_at text
+
+unfoldable pub far_body_at : List Word → Found Body
+far_body_at text = if sign_at 0 sign.At text then offset_body_at text else strided_body_at text
+
+unfoldable pub body_at : List Word → Found Body
+body_at text = if sign_at 0 sign.Reference text then own_body_at text else far_body_at text
+
+unfoldable pub indexed_at : List Word → Found Bool
+indexed_at text = do
+  rest ← phrase_at phrase.Indexed text
+  Some (true, rest)
+
+unfoldable pub plain_at : List Word → Found Bool
+plain_at text = do
+  rest ← phrase_at phrase.Plain text
+  Some (false, rest)
+
+unfoldable pub index_at : List Word → Found Bool
+index_at text = if sign_at 3 sign.Comma text then indexed_at text else plain_at text
+
+unfoldable pub access_at : List Word → Found Access
+access_at text = do
+  rest ← phrase_at phrase.PubFn text
+  name ← name_at rest
+  index ← index_at name.1
+  member ← element_at index.1
+  rest ← phrase_at phrase.OpensBody member.1
+  found ← body_at rest
+  Some (record { name = name.0; is_indexed = index.0; element = member.0; body = found.0 }, found.1)
+
+unfoldable pub head_at : List Word → Found BlockHead
+head_at text = do
+  rest ← phrase_at phrase.PubMod text
+  name ← name_at rest
+  rest ← phrase_at phrase.StructHead name.1
+  fields ← braced_at begins_field field_reading.read rest
+  rest ← phrase_at phrase.BlockImpl fields.1
+  accessors ← braced_at begins_pub access_reading.read rest
+  Some (record { name = name.0; fields = fields.0; accessors = accessors.0 }, accessors.1)
+
+-- ---- constants and markers
+
+unfoldable pub constant_at : Phrase → List Word → Found Constant
+constant_at name text = do
+  rest ← phrase_at name text
+  width ← width_at rest
+  rest ← phrase_at phrase.Equals width.1
+  value ← hexadecimal_at rest
+  rest ← phrase_at phrase.Semicolon value.1
+  Some (record { width = width.0; value = value.0 }, rest)
+
+unfoldable pub writable_at : List Word → Found Writable
+writable_at text = do
+  rest ← phrase_at phrase.WritableImpl text
+  zeros ← constant_at phrase.ZeroToModify rest
+  ones ← constant_at phrase.OneToModify zeros.1
+  rest ← phrase_at phrase.Closer ones.1
+  Some (record { zero_to_modify = zeros.0; one_to_modify = ones.0 }, rest)
+
+unfoldable pub reset_at : List Word → Found Constant
+reset_at text = do
+  rest ← phrase_at phrase.ResettableImpl text
+  constant ← constant_at phrase.ResetValue rest
+  rest ← phrase_at phrase.Closer constant.1
+  Some (constant.0, rest)
+
+unfoldable pub marker_at : List Word → Found Word
+marker_at text = do
+  rest ← phrase_at phrase.PubStruct text
+  name ← name_at rest
+  rest ← phrase_at phrase.ClosesMarker name.1
+  Some (name.0, rest)
+
+-- ---- readers
+
+-- behind the marker of a reader of a bit
+unfoldable pub bit_form_at : Word → Word → List Word → Found Reader
+bit_form_at name marker text = do
+  rest ← phrase_at phrase.NewBitReader text
+  shift ← decimal_at rest
+  rest ← phrase_at phrase.ThenMask shift.1
+  mask ← hexadecimal_at rest
+  rest ← phrase_at phrase.ClosesBitReader mask.1
+  Some (record { name = name; marker = marker; form = read_form.Bit shift.0 mask.0 }, rest)
+
+unfoldable pub bit_reader_at : List Word → Found Reader
+bit_reader_at text = do
+  rest ← phrase_at phrase.PubFn text
+  name ← name_at rest
+  rest ← phrase_at phrase.GivesBitReader name.1
+  marker ← name_at rest
+  bit_form_at name.0 marker.0 marker.1
+
+-- behind the width of a reader of a number
+unfoldable pub field_form_at : Word → Word → Width → List Word → Found Reader
+field_form_at name marker width text = do
+  rest ← phrase_at phrase.NewFieldReader text
+  shift ← decimal_at rest
+  rest ← phrase_at phrase.ThenMask shift.1
+  mask ← hexadecimal_at rest
+  rest ← phrase_at phrase.ThenCast mask.1
+  rest ← sign_then (sign.Type width) rest
+  rest ← phrase_at phrase.ClosesCall rest
+  Some (record { name = name; marker = marker; form = read_form.Field width shift.0 mask.0 }, rest)
+
+unfoldable pub field_reader_at : List Word → Found Reader
+field_reader_at text = do
+  rest ← phrase_at phrase.PubFn text
+  name ← name_at rest
+  rest ← phrase_at phrase.GivesFieldReader name.1
+  marker ← name_at rest
+  rest ← phrase_at phrase.ThenNext marker.1
+  width ← width_at rest
+  field_form_at name.0 marker.0 width.0 width.1
+
+unfoldable pub reader_at : List Word → Found Reader
+reader_at text = if sign_at 8 sign.BitReader text then bit_reader_at text else field_reader_at text
+
+-- ---- writers
+
+-- behind the marker of a writer of a number
+unfoldable pub field_place_at : Word → Word → List Word → Found Writer
+field_place_at name marker text = do
+  rest ← phrase_at phrase.ThenNext text
+  width ← width_at rest
+  rest ← phrase_at phrase.ThenNext width.1
+  bits ← decimal_at rest
+  rest ← phrase_at phrase.NewFieldWriter bits.1
+  offset ← decimal_at rest
+  rest ← phrase_at phrase.ClosesCall offset.1
+  Some (record { name = name; marker = marker; form = write_form.Field width.0 bits.0 offset.0 }, rest)
+
+unfoldable pub field_writer_at : List Word → Found Writer
+field_writer_at text = do
+  rest ← phrase_at phrase.PubFn text
+  name ← name_at rest
+  rest ← phrase_at phrase.GivesFieldWriter name.1
+  marker ← name_at rest
+  field_place_at name.0 marker.0 marker.1
+
+-- behind the marker of a writer of a bit
+unfoldable pub bit_place_at : Word → BitKind → Word → List Word → Found Writer
+bit_place_at name which marker text = do
+  rest ← phrase_at phrase.ThenBody text
+  rest ← sign_then (sign.Kind which) rest
+  rest ← phrase_at phrase.NewOnSelf rest
+  offset ← decimal_at rest
+  rest ← phrase_at phrase.ClosesCall offset.1
+  Some (record { name = name; marker = marker; form = write_form.Bit which offset.0 }, rest)
+
+unfoldable pub bit_writer_at : List Word → Found Writer
+bit_writer_at text = do
+  rest ← phrase_at phrase.PubFn text
+  name ← name_at rest
+  rest ← phrase_at phrase.GivesWriter name.1
+  which ← kind_at rest
+  rest ← phrase_at phrase.OfSpec which.1
+  marker ← name_at rest
+  bit_place_at name.0 which.0 marker.0 marker.1
+
+unfoldable pub writer_at : List Word → Found Writer
+writer_at text = if sign_at 9 sign.FieldWriter text then field_writer_at text else bit_writer_at text
+
+-- ---- calls for values
+
+unfoldable pub truth_call_at : Phrase → Phrase → List Word → Found TruthCall
+truth_call_at middle end text = do
+  rest ← phrase_at phrase.PubFn text
+  name ← name_at rest
+  rest ← phrase_at middle name.1
+  value ← truth_at rest
+  rest ← phrase_at end value.1
+  Some (record { name = name.0; value = value.0 }, rest)
+
+unfoldable pub number_call_at : Phrase → Phrase → List Word → Found NumberCall
+number_call_at middle end text = do
+  rest ← phrase_at phrase.PubFn text
+  name ← name_at rest
+  rest ← phrase_at middle name.1
+  value ← hexadecimal_at rest
+  rest ← phrase_at end value.1
+  Some (record { name = name.0; value = value.0 }, rest)
+
+unfoldable pub truth_test_at : List Word → Found TruthCall
+truth_test_at text = truth_call_at phrase.TestsBit phrase.ClosesBody text
+
+unfoldable pub truth_write_at : List Word → Found TruthCall
+truth_write_at text = truth_call_at phrase.WritesBit phrase.ClosesCall text
+
+unfoldable pub number_test_at : List Word → Found NumberCall
+number_test_at text = number_call_at phrase.TestsNumber phrase.ClosesBody text
+
+unfoldable pub number_write_at : List Word → Found NumberCall
+number_write_at text = number_call_at phrase.WritesNumber phrase.ClosesCall text
+
+unfoldable pub bit_reading_at : List Word → Found Values
+bit_reading_at text = do
+  rest ← phrase_at phrase.BitReaderImpl text
+  marker ← name_at rest
+  rest ← phrase_at phrase.OpensCalls marker.1
+  calls ← braced_at begins_pub truth_test.read rest
+  Some (values.BitReading marker.0 calls.0, calls.1)
+
+unfoldable pub field_reading_at : List Word → Found Values
+field_reading_at text = do
+  rest ← phrase_at phrase.FieldReaderImpl text
+  marker ← name_at rest
+  rest ← phrase_at phrase.ThenNext marker.1
+  width ← width_at rest
+  rest ← phrase_at phrase.OpensCalls width.1
+  calls ← braced_at begins_pub number_test.read rest
+  Some (values.FieldReading marker.0 width.0 calls.0, calls.1)
+
+unfoldable pub bit_writing_at : List Word → Found Values
+bit_writing_at text = do
+  rest ← phrase_at phrase.WriterImpl text
+  which ← kind_at rest
+  rest ← phrase_at phrase.OfSpecInImpl which.1
+  marker ← name_at rest
+  rest ← phrase_at phrase.OpensCalls marker.1
+  calls ← braced_at begins_pub truth_write.read rest
+  Some (values.BitWriting which.0 marker.0 calls.0, calls.1)
+
+-- behind the width of a block that writes numbers
+unfoldable pub field_bits_at : Word → Width → List Word → Found Values
+field_bits_at marker width text = do
+  rest ← phrase_at phrase.ThenNext text
+  bits ← decimal_at rest
+  rest ← phrase_at phrase.OpensCalls bits.1
+  calls ← braced_at begins_pub number_write.read rest
+  Some (values.FieldWriting marker width bits.0 calls.0, calls.1)
+
+unfoldable pub field_writing_at : List Word → Found Values
+field_writing_at text = do
+  rest ← phrase_at phrase.FieldWriterImpl text
+  marker ← name_at rest
+  rest ← phrase_at phrase.ThenNext marker.1
+  width ← width_at rest
+  field_bits_at marker.0 width.0 width.1
+
+unfoldable pub writing_at : List Word → Found Values
+writing_at text = if sign_at 4 sign.FieldWriter text then field_writing_at text else bit_writing_at text
+
+unfoldable pub values_at : List Word → Found Values
+values_at text = if sign_at 1 sign.BitReader text then bit_reading_at text else (if sign_at 1 sign.FieldReader text then field_reading_at text else writing_at text)
+
+-- ---- register modules
+
+unfoldable pub readable_at : List Word → Found Bool
+readable_at text = if impl_at sign.Readable text then (phrase_at phrase.ReadableImpl text >>= λ rest. Some (true, rest)) else Some (false, text)
+
+unfoldable pub writable_part_at : List Word → Found (Option Writable)
+writable_part_at text = if impl_at sign.Writable text then (writable_at text >>= λ part. Some (Some part.0, part.1)) else Some (None, text)
+
+unfoldable pub readers_at : List Word → Found (List Reader)
+readers_at text = do
+  rest ← phrase_at phrase.ReadersImpl text
+  calls ← braced_at begins_pub reader_reading.read rest
+  Some (calls.0, calls.1)
+
+unfoldable pub writers_at : List Word → Found (List Writer)
+writers_at text = do
+  rest ← phrase_at phrase.WritersImpl text
+  calls ← braced_at begins_pub writer_reading.read rest
+  Some (calls.0, calls.1)
+
+unfoldable pub readers_part_at : List Word → Found (Option (List Reader))
+readers_part_at text = if impl_at sign.R text then (readers_at text >>= λ part. Some (Some part.0, part.1)) else Some (None, text)
+
+unfoldable pub writers_part_at : List Word → Found (Option (List Writer))
+writers_part_at text = if impl_at sign.W text then (writers_at text >>= λ part. Some (Some part.0, part.1)) else Some (None, text)
+
+-- behind the type of a register module's word
+unfoldable pub parts_at : Word → Width → List Word → Found RegisterModule
+parts_at name width text = do
+  readable ← readable_at text
+  writable ← writable_part_at readable.1
+  reset ← reset_at writable.1
+  markers ← many_at begins_pub marker_reading.read reset.1
+  readers ← readers_part_at markers.1
+  writers ← writers_part_at readers.1
+  blocks ← braced_at begins_impl values_reading.read writers.1
+  Some (record { name = name; word = width; readable = readable.0; writable = writable.0; reset = reset.0; markers = markers.0; readers = readers.0; writers = writers.0; values = blocks.0 }, blocks.1)
+
+unfoldable pub register_at : List Word → Found RegisterModule
+register_at text = do
+  rest ← phrase_at phrase.PubMod text
+  name ← name_at rest
+  rest ← phrase_at phrase.RegisterHead name.1
+  width ← width_at rest
+  rest ← phrase_at phrase.ClosesWord width.1
+  parts_at name.0 width.0 rest
+
+-- ---- modules
+
+unfoldable pub block_at : List Word → Found BlockTree
+block_at text = do
+  head ← head_at text
+  inside ← modules_reading.read head.1
+  Some (record { head = head.0; inside = inside.0 }, inside.1)
+
+unfoldable pub module_at : List Word → Found ModuleTree
+module_at text = if sign_at 11 sign.Hash text then (block_at text >>= λ unit. Some (one_block unit.0, unit.1)) else (register_at text >>= λ unit. Some (one_register unit.0, unit.1))
+
+-- the blocks up to the end of the text
+unfoldable pub blocks_at : List Word → Found (List BlockTree)
+blocks_at text = read_blocks (length text) text >>= λ units. Some (units, [])
+
+-- the crate that a whole text spells
+unfoldable pub crate_at : List Word → Found CrateTree
+crate_at text = do
+  rest ← phrase_at phrase.CrateHead text
+  slots ← braced_at begins_pub slot_reading.read rest
+  blocks ← blocks_at slots.1
+  Some (record { slots = slots.0; blocks = blocks.0 }, blocks.1)

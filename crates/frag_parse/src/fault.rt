@@ -1,84 +1,108 @@
 ghost use Rattle.std.specs.Prelude.{◌≡◌};
-ghost use Rattle.frag_parse.specs.declared.fault.LineFault.TheVariants as line_fault;
-ghost use Rattle.frag_parse.specs.declared.fault.ScriptFault.TheVariants as script_fault;
+ghost use Rattle.frag_parse.specs.Depth.{widened};
+ghost use Rattle.frag_parse.specs.declared.fault.Refusal.TheVariants as refusal;
+ghost use Rattle.frag_parse.specs.declared.fault.Stop.TheVariants as stop;
 
 use pac_base::NoMemory;
 use std::alloc::{AllocError, AllocFailed};
 use thiserror::Error;
 
-/// Why a text is no script, or a script doesn't fit a crate.
+/// Why a text is no crate that is read.
 #[derive(Debug, Drop, Error)]
-pub enum ScriptFault {
-    /// The line, counted from 1, is no statement.
-    #[error("line {line} is no statement")]
-    Syntax { line: u32 },
-    /// There are so many statements, more than 65,536.
-    #[error("{count} statements")]
-    TooLong { count: u64 },
-    /// The statement on the line, counted from 1, doesn't type.
-    #[error("the statement on line {line} doesn't type")]
-    Typing { line: u32, kind: ScriptTyping },
+pub enum ParseFault {
+    /// The words of the text are those of no crate. The place is the byte of the first word at which
+    /// reading stopped, or the end of the text.
+    #[error("syntax at byte {at}")]
+    Syntax { at: usize },
+    /// They are those of a crate whose modules nest deeper than 64. The place is the byte at which the
+    /// first such module begins.
+    #[error("nesting passes 64 at byte {at}")]
+    TooDeep { at: usize },
     /// Memory was wanting.
     #[error("out of memory")]
     Memory,
 }
 
-/// Which rule of typing a statement breaks.
-#[derive(Clone, Copy, Debug, PartialEq, Eq)]
-pub enum ScriptTyping {
-    /// A place begins with no slot, or a source with no bound name.
-    NoSuchName,
-    /// There is no such accessor, field, method or register call.
-    NoSuchCall,
-    /// A value of another type, or one too many or too few, is wanted.
-    WrongType,
-    /// An index isn't below the count.
-    IndexRange,
-    /// A number doesn't fit its type.
-    LiteralRange,
-    /// A name is bound already, or is a slot, `r` or `w`.
-    Rebound,
-}
-
-impl From<NoMemory> for ScriptFault {
-    ghost from_gives = { λ _ fault. fault ≡ script_fault.Memory };
-
-    fn from(_error: NoMemory) -> ScriptFault {
-        ScriptFault::Memory
-    }
-}
-
-/// Why a line holds neither nothing nor a statement.
+/// Why reading stopped.
 #[derive(Debug, Drop, Error)]
-pub(crate) enum LineFault {
-    /// The words are those of no statement.
-    #[error("not a statement")]
-    NotAStatement,
+pub(crate) enum Stop {
+    /// Another word is wanted than the one that stands there. So many bytes are left from that word on.
+    #[error("another word is wanted")]
+    Unfit { left: usize },
     /// Memory was wanting.
     #[error("out of memory")]
     Memory,
 }
 
-impl From<AllocError> for LineFault {
-    ghost from_gives = { λ _ fault. fault ≡ line_fault.Memory };
+impl From<AllocError> for Stop {
+    ghost from_gives = { λ _ fault. fault ≡ stop.Memory };
 
-    fn from(_error: AllocError) -> LineFault {
-        LineFault::Memory
+    fn from(_error: AllocError) -> Stop {
+        Stop::Memory
     }
 }
 
-impl<T: Drop> From<AllocFailed<T>> for LineFault {
-    ghost from_gives = { λ _ fault. fault ≡ line_fault.Memory };
+impl<T: Drop> From<AllocFailed<T>> for Stop {
+    ghost from_gives = { λ _ fault. fault ≡ stop.Memory };
 
-    fn from(_error: AllocFailed<T>) -> LineFault {
-        LineFault::Memory
+    fn from(_error: AllocFailed<T>) -> Stop {
+        Stop::Memory
     }
 }
 
-impl From<NoMemory> for LineFault {
-    ghost from_gives = { λ _ fault. fault ≡ line_fault.Memory };
+impl From<NoMemory> for Stop {
+    ghost from_gives = { λ _ fault. fault ≡ stop.Memory };
 
-    fn from(_error: NoMemory) -> LineFault {
-        LineFault::Memory
+    fn from(_error: NoMemory) -> Stop {
+        Stop::Memory
+    }
+}
+
+/// Why a reader that counts the depth of modules stopped.
+#[derive(Debug, Drop, Error)]
+pub(crate) enum Refusal {
+    /// Another word is wanted than the one that stands there. So many bytes are left from that word on.
+    #[error("another word is wanted")]
+    Unfit { left: usize },
+    /// A module begins that is too deep. So many bytes are left from its first word on.
+    #[error("a module is too deep")]
+    TooDeep { left: usize },
+    /// Memory was wanting.
+    #[error("out of memory")]
+    Memory,
+}
+
+impl From<AllocError> for Refusal {
+    ghost from_gives = { λ _ fault. fault ≡ refusal.Memory };
+
+    fn from(_error: AllocError) -> Refusal {
+        Refusal::Memory
+    }
+}
+
+impl<T: Drop> From<AllocFailed<T>> for Refusal {
+    ghost from_gives = { λ _ fault. fault ≡ refusal.Memory };
+
+    fn from(_error: AllocFailed<T>) -> Refusal {
+        Refusal::Memory
+    }
+}
+
+impl From<NoMemory> for Refusal {
+    ghost from_gives = { λ _ fault. fault ≡ refusal.Memory };
+
+    fn from(_error: NoMemory) -> Refusal {
+        Refusal::Memory
+    }
+}
+
+impl From<Stop> for Refusal {
+    ghost from_gives = { λ stop fault. fault ≡ widened stop };
+
+    fn from(stop: Stop) -> Refusal {
+        match stop {
+            Stop::Unfit { left } => Refusal::Unfit { left },
+            Stop::Memory => Refusal::Memory,
+        }
     }
 }

@@ -1,22 +1,31 @@
-// The readers of crate texts and of scripts: from bytes to trees, exactly, with the place of what is
-// no crate and no script.
+// The reader of crate texts: from bytes to the tree of the crate that they spell, exactly. The reader
+// of scripts stands below and is handed on.
 #![tactic(auto)]
 
-mod chain;
-mod closure;
+mod access;
+mod block;
+mod constant;
 mod fault;
-mod fixed;
-mod line;
-mod number;
-mod part;
-mod place;
-mod script;
-mod statement;
+mod head;
+mod krate;
+mod list;
+mod module;
+mod numeral;
+mod phrase;
+mod production;
+mod reader;
+mod register;
+mod slot;
+mod starts;
+mod survey;
 #[cfg(test)]
 mod tests;
 mod token;
-mod value;
+mod value_call;
+mod values;
 mod word;
+mod writer;
 
-pub use fault::{ScriptFault, ScriptTyping};
-pub use script::{one_script, parse_script};
+pub use fault::ParseFault;
+pub use frag_script::{ScriptFault, ScriptTyping, one_script, parse_script};
+pub use krate::parse_crate;

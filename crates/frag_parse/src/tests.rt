@@ -1,84 +1,102 @@
-use crate::{ScriptFault, parse_script};
-use frag_tree::Statement;
+use crate::{ParseFault, parse_crate};
+use frag_tree::print_crate;
+use pac_io::MemSink;
 use std::alloc::Global;
 use std::test::Fail;
 
-const VENDOR: &str = "TIM2.cr1().modify(|_, w| w.cen().enabled().ckd().bits(2));
-let s = TIM3.sr().read();
-say(s.uif().bit_is_set());
-TIM3.sr().write(|w| w.uif().clear_bit());
-TIM2.ccr(1).write(|w| w.bits(0x1f4));
+const EXAMPLE: &str = "use crate::generic::*;
+
+pub struct Peripherals {
+    pub T: Periph<t::RegisterBlock, 0x40000000>,
+}
+
+pub mod t {
+    use crate::generic::*;
+    #[repr(C)]
+    pub struct RegisterBlock {
+        sr: Reg<sr::Spec>,
+    }
+    impl RegisterBlock {
+        pub fn sr(&self) -> &Reg<sr::Spec> { &self.sr }
+    }
+    pub mod sr {
+        use crate::generic::*;
+        pub struct Spec;
+        impl RegisterSpec for Spec { type Ux = u32; }
+        impl Readable for Spec {}
+        impl Writable for Spec { const ZERO_TO_MODIFY: u32 = 0x0; const ONE_TO_MODIFY: u32 = 0x1; }
+        impl Resettable for Spec { const RESET_VALUE: u32 = 0x3; }
+        pub struct F0_F;
+        pub struct F1_F;
+        impl R<Spec> {
+            pub fn f0(&self) -> BitReader<F0_F> { BitReader::new(((self.bits >> 0) & 0x1) != 0x0) }
+            pub fn f1(&self) -> BitReader<F1_F> { BitReader::new(((self.bits >> 1) & 0x1) != 0x0) }
+        }
+        impl W<Spec> {
+            pub fn f0(&mut self) -> BitWriter1C<'_, Spec, F0_F> { BitWriter1C::new(self, 0) }
+            pub fn f1(&mut self) -> BitWriter<'_, Spec, F1_F> { BitWriter::new(self, 1) }
+        }
+    }
+}
 ";
 
-// How many statements the text has, or its first wrong line; 0 for any other fault.
-fn read(alloc: Global, text: &str) -> Result<usize, u32> {
-    if text.len() > 67_108_864 {
-        return Err(0);
-    }
-    match parse_script(alloc, text.as_bytes()) {
-        Ok(script) => Ok(script.lines.len()),
-        Err(ScriptFault::Syntax { line }) => Err(line),
-        Err(_) => Err(0),
-    }
-}
+const BLOCK: &str =
+    "pub mod b { use crate::generic::*; #[repr(C)] pub struct RegisterBlock {} impl RegisterBlock {}";
 
 #[test]
-fn statements_of_each_kind(rt: HostRuntime) -> Result<(), Fail> {
-    for text in [
-        "let s = A.b().read();",
-        "A.b(0xF_f).write(|w| w);",
-        "A.b(1_0).c().write(|w| w.bits(!true).x().y());",
-        "A.b(007).write_with_zero(|w| w.x().y(r.bits() as u8));",
-        "A.b().modify(|r, w| w.x().bits(r.x().bits()));",
-        "A.b().modify(|_, w| w); // comment",
-        "A . reset ( ) . reset ( ) ;\r",
-        "say(!300);",
-        "say(18446744073709551615);",
-        "say.x().reset();",
-    ] {
-        assert!(rt; matches!(&read(rt.alloc(), text), Ok(1)), "{text}");
-    }
+fn what_is_read_is_printed_as_it_was(rt: HostRuntime) -> Result<(), Fail> {
+    let krate = parse_crate(rt.alloc(), EXAMPLE.as_bytes())?;
+    assert_eq!(rt;
+        krate.places.as_slice(),
+        [53, 101, 194, 252, 310, 642, 667, 719, 819, 952, 1046].as_slice()
+    );
+    let mut sink = MemSink::new(rt.alloc());
+    print_crate(rt.alloc(), &krate, &mut sink)?;
+    assert_eq!(rt; sink.written(), EXAMPLE.as_bytes());
     Ok(())
 }
 
-#[test]
-fn wrong_lines(rt: HostRuntime) -> Result<(), Fail> {
-    for text in [
-        "\n\nsay(1__0);",
-        "// \r\n\nsay(0x_1);",
-        "say(1);\n \t\r\nsay(1_);",
-        "\n\nsay(18446744073709551616);",
-        "\n\nA.read();",
-        "\n\nA.b().modify(|w| w);",
-        "\n\nlet let = A.b().read();",
-        "\n\nsay(1); say(1);",
-        "\n\nsay(1)\r;",
-    ] {
-        assert!(rt; matches!(&read(rt.alloc(), text), Err(3)), "{text}");
+// Where reading stopped, for a text that is no crate.
+fn syntax_at(alloc: Global, text: &str) -> Option<usize> {
+    match parse_crate(alloc, text.as_bytes()) {
+        Err(ParseFault::Syntax { at }) => Some(at),
+        _ => None,
     }
-    Ok(())
 }
 
 #[test]
-fn script_of_a_vendor(rt: HostRuntime) -> Result<(), Fail> {
-    assert!(rt; matches!(&read(rt.alloc(), VENDOR), Ok(5)));
+fn other_words_are_refused_where_they_stand(rt: HostRuntime) -> Result<(), Fail> {
+    assert_eq!(rt; syntax_at(rt.alloc(), ""), Some(0));
+    assert_eq!(rt; syntax_at(rt.alloc(), "use crate::generic::*;"), Some(22));
+    let twice = format!(in rt.alloc(); "{EXAMPLE}{EXAMPLE}")?;
+    assert_eq!(rt; syntax_at(rt.alloc(), twice.as_str()), Some(1142));
+    let spaced = "use// \u{fc}\ncrate::generic::*;\tpub\r\nstruct Peripherals{}//";
+    assert_eq!(rt; syntax_at(rt.alloc(), spaced), None);
     Ok(())
 }
 
+// A crate with so many block modules, one in another, of which the last `left` stay open.
+fn nested(alloc: Global, depth: usize, left: usize) -> Result<String, Fail> {
+    let mut text = String::from_str(alloc, "use crate::generic::*; pub struct Peripherals {}")?;
+    for _ in 0..depth {
+        text.push_str(BLOCK)?;
+    }
+    for _ in left..depth {
+        text.push_str("}")?;
+    }
+    Ok(text)
+}
+
 #[test]
-fn a_statement_has_its_line(rt: HostRuntime) -> Result<(), Fail> {
-    let script = parse_script(rt.alloc(), b"\nA.b().modify(|_, w| w);")?;
-    let found = match script.lines.get(0) {
-        Some(first) => first.line == 2
-            && matches!(
-                &first.statement,
-                Statement::Modify {
-                    names_reader: false,
-                    ..
-                }
-            ),
-        None => false,
-    };
-    assert!(rt; found);
+fn modules_nest_64_deep(rt: HostRuntime) -> Result<(), Fail> {
+    let most = nested(rt.alloc(), 64, 0)?;
+    assert!(rt; parse_crate(rt.alloc(), most.as_bytes()).is_ok());
+    let more = nested(rt.alloc(), 65, 0)?;
+    let place = 48 + 64 * BLOCK.len();
+    let deep =
+        matches!(parse_crate(rt.alloc(), more.as_bytes()), Err(ParseFault::TooDeep { at }) if at == place);
+    assert!(rt; deep);
+    let broken = nested(rt.alloc(), 65, 1)?;
+    assert_eq!(rt; syntax_at(rt.alloc(), broken.as_str()), Some(broken.len()));
     Ok(())
 }

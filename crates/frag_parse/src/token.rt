@@ -1,83 +1,132 @@
-ghost use Rattle.std.specs.Prelude.{◌≡◌, option_map};
-ghost use Rattle.std.specs.Str.{bytes_eq};
-ghost use Rattle.frag_parse.specs.FixedWords.{text_of};
-ghost use Rattle.frag_parse.specs.Reading.{Gives, empty_at, expects, is_end, name_at, number_at};
-ghost use Rattle.frag_parse.specs.Tokens.{tokens_in};
+ghost use Rattle.std.specs.Prelude.{◌≡◌, ◌∷◌};
+ghost use Rattle.frag_words.specs.Readings.{nth};
+ghost use Rattle.frag_words.specs.Words.{words_in};
+ghost use Rattle.frag_parse.specs.Reading.{Gives, expects, first_at, impl_at, is_end, name_at, name_of, phrase_at, sign_at, sign_then, word_then};
 
-use crate::fault::LineFault;
-use crate::fixed::Fixed;
-use crate::number::number_in;
-use crate::word::next_word;
+use crate::fault::Stop;
+use crate::phrase::{Phrase, Sign};
 use frag_tree::{Identifier, IdentifierFault};
+use frag_words::next_word;
 use std::alloc::Global;
 
-/// What follows the fixed word, where the text begins with it.
-pub(crate) fn after(text: &[u8], fixed: Fixed) -> Option<&[u8]>
-    ensures { option_map (λ rest. tokens_in rest.now) result ≡ expects fixed (tokens_in text.now) }
-{
-    let Some((word, rest)) = next_word(text) else {
-        return None;
-    };
-    if word == fixed.text() {
-        Some(rest)
-    } else {
-        None
+/// How many bytes are left from the first word of the text on.
+pub(crate) fn left_at(text: &[u8]) -> usize {
+    match next_word(text) {
+        Some((word, after)) => word.len().saturating_add(after.len()),
+        None => 0,
     }
 }
 
-/// What follows the fixed word, with which the text begins.
-pub(crate) fn expect(text: &[u8], fixed: Fixed) -> Result<&[u8], LineFault>
-    ensures { Gives (λ rest. tokens_in rest.now) result (expects fixed (tokens_in text.now)) }
+/// The first word of the text, and what follows it.
+#[tactic(auto, unfolding(crate::specs::Reading::first_at))]
+pub(crate) fn first_word(text: &[u8]) -> Result<(&[u8], &[u8]), Stop>
+    ensures { Gives (λ found. (found.0.now, words_in found.1.now)) result (first_at (words_in text.now)) }
 {
-    after(text, fixed).ok_or(LineFault::NotAStatement)
+    match next_word(text) {
+        Some((word, rest)) => Ok((word, rest)),
+        None => Err(Stop::Unfit { left: 0 }),
+    }
 }
 
-/// What follows `()`, with which the text begins.
-#[tactic(auto, unfolding(crate::specs::Reading::empty_at))]
-pub(crate) fn expect_empty(text: &[u8]) -> Result<&[u8], LineFault>
-    ensures { Gives (λ rest. tokens_in rest.now) result (empty_at (tokens_in text.now)) }
+/// What follows the word, with which the text begins.
+#[tactic(auto, unfolding(crate::specs::Reading::word_then))]
+fn after_word<'a>(text: &'a [u8], word: &[u8]) -> Result<&'a [u8], Stop>
+    ensures { Gives (λ rest. words_in rest.now) result (word_then word.now (words_in text.now)) }
 {
-    let inside = expect(text, Fixed::Opener)?;
-    expect(inside, Fixed::Closer)
+    let (first, rest) = first_word(text)?;
+    if word == first {
+        Ok(rest)
+    } else {
+        Err(Stop::Unfit {
+            left: left_at(text),
+        })
+    }
+}
+
+/// What follows the words of one text, with which another begins.
+fn after_words<'a>(text: &'a [u8], words: &[u8]) -> Result<&'a [u8], Stop>
+    ensures { Gives (λ rest. words_in rest.now) result (expects (words_in words.now) (words_in text.now)) }
+{
+    let mut rest = text;
+    let mut wanted = words;
+    while let Some((word, others)) = next_word(wanted) {
+        rest = after_word(rest, word)?;
+        wanted = others;
+    }
+    Ok(rest)
+}
+
+/// What follows the fixed text, with which the text begins.
+#[tactic(auto, unfolding(crate::specs::Reading::phrase_at))]
+pub(crate) fn expect(text: &[u8], phrase: Phrase) -> Result<&[u8], Stop>
+    ensures { Gives (λ rest. words_in rest.now) result (phrase_at phrase (words_in text.now)) }
+{
+    after_words(text, phrase.text())
+}
+
+/// What follows the word, with which the text begins.
+#[tactic(auto, unfolding(crate::specs::Reading::sign_then))]
+pub(crate) fn expect_sign(text: &[u8], sign: Sign) -> Result<&[u8], Stop>
+    ensures { Gives (λ rest. words_in rest.now) result (sign_then sign (words_in text.now)) }
+{
+    after_word(text, sign.word())
+}
+
+/// The word at a place of the text, counted from 0; the empty word behind the end.
+fn nth_word(text: &[u8], place: usize) -> &[u8]
+    ensures { result.now ≡ nth place (words_in text.now) }
+{
+    match next_word(text) {
+        Some((word, rest)) => match place.checked_sub(1) {
+            Some(before) => nth_word(rest, before),
+            None => word,
+        },
+        None => &[],
+    }
+}
+
+/// Whether the word stands at the place, counted from 0.
+#[tactic(auto, unfolding(crate::specs::Reading::sign_at))]
+pub(crate) fn is_at(text: &[u8], place: usize, sign: Sign) -> bool
+    ensures { result ≡ sign_at place sign (words_in text.now) }
+{
+    nth_word(text, place) == sign.word()
+}
+
+/// Whether an `impl` block of this kind begins.
+#[tactic(auto, unfolding(crate::specs::Reading::impl_at))]
+pub(crate) fn is_impl(text: &[u8], kind: Sign) -> bool
+    ensures { result ≡ impl_at kind (words_in text.now) }
+{
+    is_at(text, 0, Sign::Impl) && is_at(text, 1, kind)
+}
+
+/// The identifier that the word is; the text begins with it.
+fn named(alloc: Global, text: &[u8], word: &[u8]) -> Result<Identifier, Stop>
+    ensures { Gives (λ name. name) result (name_of word.now) }
+{
+    match Identifier::new(alloc, word) {
+        Ok(name) => Ok(name),
+        Err(IdentifierFault::NotAnIdentifier) => Err(Stop::Unfit {
+            left: left_at(text),
+        }),
+        Err(IdentifierFault::Memory) => Err(Stop::Memory),
+    }
 }
 
 /// The identifier at the front of the text, and what follows it.
-pub(crate) fn identifier(alloc: Global, text: &[u8]) -> Result<(Identifier, &[u8]), LineFault>
-    ensures { Gives (λ found. (found.0, tokens_in found.1.now)) result (name_at (tokens_in text.now)) }
+#[tactic(auto, unfolding(crate::specs::Reading::name_at))]
+pub(crate) fn identifier(alloc: Global, text: &[u8]) -> Result<(Identifier, &[u8]), Stop>
+    ensures { Gives (λ found. (found.0, words_in found.1.now)) result (name_at (words_in text.now)) }
 {
-    let Some((word, rest)) = next_word(text) else {
-        return Err(LineFault::NotAStatement);
-    };
-    match Identifier::new(alloc, word) {
-        Ok(name) => Ok((name, rest)),
-        Err(IdentifierFault::NotAnIdentifier) => Err(LineFault::NotAStatement),
-        Err(IdentifierFault::Memory) => Err(LineFault::Memory),
-    }
-}
-
-/// The number at the front of the text, and what follows it; `None` where something else stands there.
-pub(crate) fn number(alloc: Global, text: &[u8]) -> Result<Option<(u64, &[u8])>, LineFault>
-    ensures { Gives (λ found. option_map (λ p. (p.0, tokens_in p.1.now)) found) result (Some (number_at (tokens_in text.now))) }
-{
-    let Some((word, rest)) = next_word(text) else {
-        return Ok(None);
-    };
-    match number_in(alloc, word)? {
-        Some(number) => Ok(Some((number, rest))),
-        None => Ok(None),
-    }
-}
-
-/// Whether the name is the fixed word.
-pub(crate) fn is(name: &Identifier, fixed: Fixed) -> bool
-    ensures { result ≡ bytes_eq name.now (text_of fixed) }
-{
-    name.bytes() == fixed.text()
+    let (word, rest) = first_word(text)?;
+    let name = named(alloc, text, word)?;
+    Ok((name, rest))
 }
 
 /// Whether the text holds no word.
 pub(crate) fn is_end(text: &[u8]) -> bool
-    ensures { result ≡ is_end (tokens_in text.now) }
+    ensures { result ≡ is_end (words_in text.now) }
 {
     match next_word(text) {
         Some(_) => false,

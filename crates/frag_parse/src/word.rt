@@ -1,118 +1,123 @@
-ghost use Rattle.std.specs.Prelude.{◌≡◌, ◌≤◌, ◌==◌, ◌&&◌, ◌||◌, [], ◌∷◌, length, not, MatchOption};
-ghost use Rattle.std.specs.List.{prefix_len};
-ghost use Rattle.frag_words.specs.Words.{begins, front_at, is_blank, is_pair, words_in};
-ghost use Rattle.frag_parse.specs.Fronts.{behind_of, front_of};
-ghost use Rattle.pac_base.specs.Names.{is_word_byte};
+ghost use Rattle.std.specs.Prelude.{◌≡◌};
+ghost use Rattle.std.specs.Str.{bytes_eq};
+ghost use Rattle.frag_words.specs.Words.{words_in};
+ghost use Rattle.frag_parse.specs.Phrases.{sign_word};
+ghost use Rattle.frag_parse.specs.Reading.{Gives, kind_at, kind_of, truth_at, truth_of, width_at, width_of};
 
-/// What stands at a byte, and how many bytes behind that one belong to it.
-#[derive(Clone, Copy)]
-enum Front {
-    /// White space, or a comment.
-    Gap(usize),
-    /// A word.
-    Word(usize),
+use crate::fault::Stop;
+use crate::phrase::Sign;
+use crate::token::{first_word, left_at};
+use frag_tree::BitKind;
+use pac_base::Width;
+
+/// Whether this is how the sign is spelled.
+fn spells(sign: Sign, word: &[u8]) -> bool
+    ensures { result ≡ bytes_eq (sign_word sign) word.now }
+{
+    sign.word() == word
 }
 
-/// Space, tab, LF and CR.
-fn is_blank(byte: u8) -> bool
-    ensures { result ≡ is_blank byte }
+/// The width whose type the word is.
+#[tactic(auto, unfolding(crate::specs::Reading::width_of, crate::specs::Phrases::sign_word))]
+fn width_of(word: &[u8]) -> Option<Width>
+    ensures { result ≡ width_of word.now }
 {
-    byte == b' ' || byte == b'\t' || byte == b'\n' || byte == b'\r'
-}
-
-/// A letter, a digit or `_`.
-fn is_word_byte(byte: u8) -> bool
-    ensures { result ≡ is_word_byte byte }
-{
-    matches!(byte, b'A'..=b'Z' | b'a'..=b'z' | b'0'..=b'9' | b'_')
-}
-
-/// Whether the text begins with the byte.
-fn begins(byte: u8, text: &[u8]) -> bool
-    ensures { result ≡ begins byte text.now }
-{
-    match text {
-        [first, ..] => *first == byte,
-        [] => false,
+    if spells(Sign::Type(Width::W8), word) {
+        return Some(Width::W8);
     }
-}
-
-/// Whether two bytes are one word: `::`, `->`, `>>`, `!=`, `==`.
-fn is_pair(first: u8, others: &[u8]) -> bool
-    ensures { result ≡ is_pair first others.now }
-{
-    match first {
-        b':' => begins(b':', others),
-        b'-' => begins(b'>', others),
-        b'>' => begins(b'>', others),
-        b'!' => begins(b'=', others),
-        b'=' => begins(b'=', others),
-        _ => false,
+    if spells(Sign::Type(Width::W16), word) {
+        return Some(Width::W16);
     }
-}
-
-/// Whether a comment begins.
-pub(crate) fn is_comment(first: u8, others: &[u8]) -> bool
-    ensures { result ≡ (first == 47 && begins 47 others.now) }
-{
-    first == b'/' && begins(b'/', others)
-}
-
-/// Whether a run of word bytes begins.
-fn begins_run(first: u8) -> bool
-    ensures { result ≡ (is_word_byte first || first == 39) }
-{
-    is_word_byte(first) || first == b'\''
-}
-
-/// How many bytes stand before LF.
-fn line_length(text: &[u8]) -> usize
-    ensures same { result ≡ prefix_len (λ byte. not (byte == 10)) text.now }
-    ensures within { result ≤ length text.now }
-{
-    text.iter().take_while(|byte| **byte != b'\n').count()
-}
-
-/// How many word bytes stand at the front.
-fn run_length(text: &[u8]) -> usize
-    ensures same { result ≡ prefix_len is_word_byte text.now }
-    ensures within { result ≤ length text.now }
-{
-    text.iter().take_while(|byte| is_word_byte(**byte)).count()
-}
-
-fn stands_at(first: u8, others: &[u8]) -> Front
-    ensures same { front_of result ≡ front_at first others.now }
-    ensures within { behind_of result ≤ length others.now }
-{
-    if is_blank(first) {
-        return Front::Gap(0);
+    if spells(Sign::Type(Width::W32), word) {
+        return Some(Width::W32);
     }
-    if is_comment(first, others) {
-        return Front::Gap(line_length(others));
-    }
-    if begins_run(first) {
-        return Front::Word(run_length(others));
-    }
-    if is_pair(first, others) {
-        return Front::Word(1);
-    }
-    Front::Word(0)
-}
-
-/// The first word of the text, and what follows it. `None` where there is no word.
-pub(crate) fn next_word(text: &[u8]) -> Option<(&[u8], &[u8])>
-    ensures { MatchOption result (words_in text.now ≡ []) (λ found. words_in text.now ≡ found.0.now ∷ words_in found.1.now) }
-{
-    let mut rest = text;
-    while let Some((first, others)) = rest.split_first() {
-        match stands_at(*first, others) {
-            Front::Gap(more) => rest = others.split_at(more).1,
-            Front::Word(more) => {
-                let after = others.split_at(more).1;
-                return Some((rest.split_at(rest.len() - after.len()).0, after));
-            }
-        }
+    if spells(Sign::Type(Width::W64), word) {
+        return Some(Width::W64);
     }
     None
+}
+
+/// The truth that the word is.
+#[tactic(auto, unfolding(crate::specs::Reading::truth_of, crate::specs::Phrases::sign_word))]
+fn truth_of(word: &[u8]) -> Option<bool>
+    ensures { result ≡ truth_of word.now }
+{
+    if spells(Sign::Truth(true), word) {
+        return Some(true);
+    }
+    if spells(Sign::Truth(false), word) {
+        return Some(false);
+    }
+    None
+}
+
+/// The kind of bit whose writer the word is.
+#[tactic(auto, unfolding(crate::specs::Reading::kind_of, crate::specs::Phrases::sign_word))]
+fn kind_of(word: &[u8]) -> Option<BitKind>
+    ensures { result ≡ kind_of word.now }
+{
+    if spells(Sign::Kind(BitKind::Plain), word) {
+        return Some(BitKind::Plain);
+    }
+    if spells(Sign::Kind(BitKind::OneToSet), word) {
+        return Some(BitKind::OneToSet);
+    }
+    if spells(Sign::Kind(BitKind::ZeroToClear), word) {
+        return Some(BitKind::ZeroToClear);
+    }
+    if spells(Sign::Kind(BitKind::OneToClear), word) {
+        return Some(BitKind::OneToClear);
+    }
+    if spells(Sign::Kind(BitKind::ZeroToSet), word) {
+        return Some(BitKind::ZeroToSet);
+    }
+    if spells(Sign::Kind(BitKind::OneToToggle), word) {
+        return Some(BitKind::OneToToggle);
+    }
+    if spells(Sign::Kind(BitKind::ZeroToToggle), word) {
+        return Some(BitKind::ZeroToToggle);
+    }
+    None
+}
+
+/// The type at the front of the text, as the width of its numbers, and what follows it.
+#[tactic(auto, unfolding(crate::specs::Reading::width_at))]
+pub(crate) fn width(text: &[u8]) -> Result<(Width, &[u8]), Stop>
+    ensures { Gives (λ found. (found.0, words_in found.1.now)) result (width_at (words_in text.now)) }
+{
+    let (word, rest) = first_word(text)?;
+    match width_of(word) {
+        Some(width) => Ok((width, rest)),
+        None => Err(Stop::Unfit {
+            left: left_at(text),
+        }),
+    }
+}
+
+/// The truth at the front of the text, and what follows it.
+#[tactic(auto, unfolding(crate::specs::Reading::truth_at))]
+pub(crate) fn truth(text: &[u8]) -> Result<(bool, &[u8]), Stop>
+    ensures { Gives (λ found. (found.0, words_in found.1.now)) result (truth_at (words_in text.now)) }
+{
+    let (word, rest) = first_word(text)?;
+    match truth_of(word) {
+        Some(truth) => Ok((truth, rest)),
+        None => Err(Stop::Unfit {
+            left: left_at(text),
+        }),
+    }
+}
+
+/// The writer of a bit at the front of the text, and what follows it.
+#[tactic(auto, unfolding(crate::specs::Reading::kind_at))]
+pub(crate) fn kind(text: &[u8]) -> Result<(BitKind, &[u8]), Stop>
+    ensures { Gives (λ found. (found.0, words_in found.1.now)) result (kind_at (words_in text.now)) }
+{
+    let (word, rest) = first_word(text)?;
+    match kind_of(word) {
+        Some(kind) => Ok((kind, rest)),
+        None => Err(Stop::Unfit {
+            left: left_at(text),
+        }),
+    }
 }

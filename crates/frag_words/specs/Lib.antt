@@ -2,3 +2,4 @@ pub mod Words
 pub mod Lines
 pub mod Joined
 pub mod Readings
+pub mod Fronts

@@ -1,0 +1,274 @@
+-- The productions of the crate text are read as the code reads them.
+use Rattle.std.proofs.Common.{ℕ, ◌≡◌, List, [], ◌∷◌, ◌++◌, Bool, true, false, Option, Some, None, refl, sym, ap, ◌∙◌}
+use Rattle.std.specs.Prelude.{codes, drop, if◌then◌else◌}
+use Rattle.text_scan.specs.Steps.{◌>>=◌}
+use Rattle.text_scan.specs.Numbers.{value_of}
+use Rattle.frag_words.specs.Words.{Word, words_in}
+use Rattle.frag_words.specs.Readings.{Reading, among, fixed_words, list_until, truth_of as side_truth, word_at, word_is}
+use Rattle.frag_tree.specs.Identifiers.{is_identifier}
+use Rattle.frag_tree.specs.Numerals.{decimal_word, hexadecimal_word, truth_word, width_word}
+use Rattle.frag_tree.specs.Registers.{kind_word}
+use Rattle.frag_tree.specs.Productions.{identifier, numeral_at, hexadecimal_reading, decimal_reading, width_reading, truth_reading, kind_reading, slot_of, slot_raw, slot_reading, element_of, element_raw, element_reading, type_of, type_raw, type_reading, field_of, field_raw, field_reading, body_of, body_raw, body_reading, index_reading, access_of, access_raw, access_reading}
+use Rattle.frag_tree.specs.RegisterProductions.{constant_of, constant_reading, writable_of, writable_raw, writable_reading, reset_raw, reset_reading, marker_reading, reader_of, reader_raw, reader_reading, writer_of, writer_raw, writer_reading, truth_of as truth_call_of, truth_raw, truth_test, truth_write, number_of, number_raw, number_test, number_write, calls_until, bit_reading_raw, field_reading_raw, bit_writing_raw, field_writing_raw, values_of, values_raw, values_reading, begins_impl as begins_impl_of, readers_reading, writers_reading, values_part, writers_part, readers_part, markers_part, reset_part, writable_part, readable_part, register_head, register_raw, register_of, register_reading}
+use Rattle.frag_tree.specs.ModuleProductions.{head_of, struct_head, fields_reading, head_raw, head_reading, slots_reading}
+use Rattle.frag_tree.specs.declared.access.Body.{Body}
+use Rattle.frag_tree.specs.declared.block.Element.{Element}
+use Rattle.frag_tree.specs.declared.block.FieldType.{FieldType}
+use Rattle.frag_tree.specs.declared.block.StructField.{StructField}
+use Rattle.frag_tree.specs.declared.register.BitKind.{BitKind}
+use Rattle.frag_tree.specs.declared.register.Constant.{Constant}
+use Rattle.frag_tree.specs.declared.register.Values.{Values}
+use Rattle.pac_base.specs.declared.width.Width.{Width}
+use Rattle.frag_tree.specs.declared.register.BitKind.TheVariants as kind
+use Rattle.pac_base.specs.declared.width.Width.TheVariants.{W8, W16, W32, W64}
+use Rattle.frag_parse.specs.declared.phrase.Phrase.{Phrase}
+use Rattle.frag_parse.specs.declared.phrase.Phrase.TheVariants as phrase
+use Rattle.frag_parse.specs.Phrases.{sign_word, text_of}
+use Rattle.frag_parse.specs.Reading.{Found, access_at, array_at, begins_field, begins_impl, begins_pub, bit_form_at, bit_place_at, bit_reader_at, bit_reading_at, bit_writer_at, bit_writing_at, block_element_at, body_at, braced_at, constant_at, decimal_at, decimal_of, element_at, far_body_at, field_at, field_bits_at, field_body_at, field_form_at, field_place_at, field_reader_at, field_reading_at, field_writer_at, field_writing_at, first_at, gap_at, head_at, hexadecimal_at, hexadecimal_of, impl_at, index_at, indexed_at, kind_at, kind_of, marker_at, member_body_at, name_at, name_of, number_call_at, offset_body_at, own_body_at, parts_at, phrase_at, plain_at, readable_at, reader_at, readers_at, readers_part_at, register_at, register_element_at, reset_at, sign_at, sign_then, single_at, slot_at, strided_body_at, truth_at, truth_call_at, truth_of, type_at, values_at, width_at, width_of, writable_at, writable_part_at, writer_at, writers_at, writers_part_at, writing_at}
+use Rattle.frag_parse.proofs.Steps.{Does, reads, does_known, does_behind, does_pair, does_followed, does_three, does_mapped, does_either, does_nothing, does_flag, does_list, does_option, value_is}
+
+-- ---- words
+
+abbrev word_found : Word → List Word → Found Word
+word_found word others = Some (word, others)
+
+abbrev one_word : Word → Option Word
+one_word word = Some word
+
+name_either : (hit : Bool) (word : Word) (others : List Word) → (if hit then word_found word others else None) ≡ ((if hit then one_word word else None) >>= λ name. word_found name others)
+name_either true word others = refl
+name_either false word others = refl
+
+name_same : (text : List Word) → identifier.read text ≡ name_at text
+unfolding name_at name_of first_at
+name_same [] = refl
+name_same (first ∷ others) = name_either (is_identifier first) first others
+
+name : {B : Type 0} → Does Word B identifier.read (λ text next. name_at text >>= λ found. next found.0 found.1)
+name = does_known identifier.read name_at name_same
+
+hexadecimal_same : (text : List Word) → hexadecimal_reading.read text ≡ hexadecimal_at text
+unfolding hexadecimal_reading hexadecimal_at hexadecimal_of
+hexadecimal_same text = value_is (λ word. numeral_at hexadecimal_word (value_of 16 (drop 2 word)) word) text
+
+hexadecimal : {B : Type 0} → Does ℕ B hexadecimal_reading.read (λ text next. hexadecimal_at text >>= λ found. next found.0 found.1)
+hexadecimal = does_known hexadecimal_reading.read hexadecimal_at hexadecimal_same
+
+decimal_same : (text : List Word) → decimal_reading.read text ≡ decimal_at text
+unfolding decimal_reading decimal_at decimal_of
+decimal_same text = value_is (λ word. numeral_at decimal_word (value_of 10 word) word) text
+
+decimal : {B : Type 0} → Does ℕ B decimal_reading.read (λ text next. decimal_at text >>= λ found. next found.0 found.1)
+decimal = does_known decimal_reading.read decimal_at decimal_same
+
+width_same : (text : List Word) → width_reading.read text ≡ width_at text
+unfolding width_reading width_at width_of
+width_same text = value_is (among width_word (W8 ∷ W16 ∷ W32 ∷ W64 ∷ [])) text
+
+width : {B : Type 0} → Does Width B width_reading.read (λ text next. width_at text >>= λ found. next found.0 found.1)
+width = does_known width_reading.read width_at width_same
+
+truth_same : (text : List Word) → truth_reading.read text ≡ truth_at text
+unfolding truth_reading truth_at truth_of
+truth_same text = value_is (among truth_word (true ∷ false ∷ [])) text
+
+truth : {B : Type 0} → Does Bool B truth_reading.read (λ text next. truth_at text >>= λ found. next found.0 found.1)
+truth = does_known truth_reading.read truth_at truth_same
+
+kind_same : (text : List Word) → kind_reading.read text ≡ kind_at text
+unfolding kind_reading kind_at kind_of
+kind_same text = value_is (among kind_word (kind.Plain ∷ kind.OneToSet ∷ kind.ZeroToClear ∷ kind.OneToClear ∷ kind.ZeroToSet ∷ kind.OneToToggle ∷ kind.ZeroToToggle ∷ [])) text
+
+writer_kind : {B : Type 0} → Does BitKind B kind_reading.read (λ text next. kind_at text >>= λ found. next found.0 found.1)
+writer_kind = does_known kind_reading.read kind_at kind_same
+
+-- ---- lists in braces
+
+braced_same : {A : Type 0} (test : List Word → Bool) (item : Reading A) (text : List Word) → (list_until test item (words_in (codes "}"))).read text ≡ braced_at test item.read text
+unfolding braced_at phrase_at text_of
+braced_same test item text = (does_list test item (fixed_words (words_in (codes "}"))) (does_behind (words_in (codes "}")) does_nothing)).does text (λ trees rest. Some (trees.0, rest))
+
+calls : {A B : Type 0} (call : Reading A) → Does (List A) B (calls_until call).read (λ text next. braced_at begins_pub call.read text >>= λ found. next found.0 found.1)
+unfolding begins_pub sign_at sign_word
+calls call = does_known (calls_until call).read (braced_at begins_pub call.read) (braced_same begins_pub call)
+
+-- ---- slots
+
+pub slot_same : (text : List Word) → slot_reading.read text ≡ slot_at text
+unfolding slot_reading slot_raw slot_at phrase_at text_of
+slot_same text =
+    (does_behind (words_in (codes "pub ")) (does_pair name (does_behind (words_in (codes ": Periph<")) (does_pair name (does_behind (words_in (codes "::RegisterBlock, ")) (does_followed (λ _. words_in (codes ">,")) hexadecimal)))))).does text (λ tree rest. Some (slot_of tree, rest))
+
+pub slots_same : (text : List Word) → slots_reading.read text ≡ braced_at begins_pub slot_reading.read text
+unfolding begins_pub sign_at sign_word
+slots_same text = braced_same begins_pub slot_reading text
+
+-- ---- blocks
+
+element_same : (text : List Word) → element_reading.read text ≡ element_at text
+unfolding element_reading element_raw element_at register_element_at block_element_at phrase_at text_of sign_at sign_word
+element_same text =
+    (does_either (word_is 1 (codes "<"))
+    (does_behind (words_in (codes "Reg<")) (does_followed (λ _. words_in (codes "::Spec>")) name))
+    (does_followed (λ _. words_in (codes "::RegisterBlock")) name)).does text (λ tree rest. Some (element_of tree, rest))
+
+element : {B : Type 0} → Does Element B element_reading.read (λ text next. element_at text >>= λ found. next found.0 found.1)
+element = does_known element_reading.read element_at element_same
+
+type_same : (text : List Word) → type_reading.read text ≡ type_at text
+unfolding type_reading type_raw type_at gap_at array_at single_at phrase_at text_of sign_at sign_word
+type_same text =
+    (does_either (word_is 0 (codes "["))
+    (does_either (word_is 2 (codes ";"))
+    (does_behind (words_in (codes "[u8; ")) (does_followed (λ _. words_in (codes "]")) decimal))
+    (does_behind (words_in (codes "[")) (does_pair element (does_behind (words_in (codes "; ")) (does_followed (λ _. words_in (codes "]")) decimal)))))
+    element).does text (λ tree rest. Some (type_of tree, rest))
+
+field_type : {B : Type 0} → Does FieldType B type_reading.read (λ text next. type_at text >>= λ found. next found.0 found.1)
+field_type = does_known type_reading.read type_at type_same
+
+pub field_same : (text : List Word) → field_reading.read text ≡ field_at text
+unfolding field_reading field_raw field_at phrase_at text_of
+field_same text =
+    (does_pair name (does_behind (words_in (codes ": ")) (does_followed (λ _. words_in (codes ",")) field_type))).does text (λ tree rest. Some (field_of tree, rest))
+
+body_same : (text : List Word) → body_reading.read text ≡ body_at text
+unfolding body_reading body_raw body_at own_body_at far_body_at field_body_at member_body_at offset_body_at strided_body_at phrase_at text_of sign_at sign_word
+body_same text =
+    (does_either (word_is 0 (codes "&"))
+    (does_either (word_is 4 (codes "}"))
+    (does_behind (words_in (codes "&self.")) (does_followed (λ _. words_in (codes " }")) name))
+    (does_behind (words_in (codes "&self.")) (does_followed (λ _. words_in (codes "[n] }")) name)))
+    (does_either (word_is 0 (codes "at"))
+    (does_behind (words_in (codes "at(self, ")) (does_followed (λ _. words_in (codes ") }")) hexadecimal))
+    (does_behind (words_in (codes "at_index(self, ")) (does_pair hexadecimal (does_behind (words_in (codes ", ")) (does_pair decimal (does_behind (words_in (codes ", ")) (does_followed (λ _. words_in (codes ", n) }")) decimal)))))))).does text (λ tree rest. Some (body_of tree, rest))
+
+body : {B : Type 0} → Does Body B body_reading.read (λ text next. body_at text >>= λ found. next found.0 found.1)
+body = does_known body_reading.read body_at body_same
+
+index_same : (text : List Word) → index_reading.read text ≡ index_at text
+unfolding index_reading index_at indexed_at plain_at phrase_at text_of sign_at sign_word
+index_same text =
+    (does_either (word_is 3 (codes ","))
+    (does_behind (words_in (codes "(&self, n: usize) -> &")) does_nothing)
+    (does_behind (words_in (codes "(&self) -> &")) does_nothing)).does text (λ tree rest. Some (side_truth tree, rest))
+
+index : {B : Type 0} → Does Bool B index_reading.read (λ text next. index_at text >>= λ found. next found.0 found.1)
+index = does_known index_reading.read index_at index_same
+
+pub access_same : (text : List Word) → access_reading.read text ≡ access_at text
+unfolding access_reading access_raw access_at phrase_at text_of
+access_same text =
+    (does_behind (words_in (codes "pub fn ")) (does_pair name (does_pair index (does_pair element (does_behind (words_in (codes " { ")) body))))).does text (λ tree rest. Some (access_of tree, rest))
+
+fields : {B : Type 0} → Does (List StructField) B fields_reading.read (λ text next. braced_at begins_field field_reading.read text >>= λ found. next found.0 found.1)
+unfolding fields_reading begins_field sign_at sign_word
+fields = does_known fields_reading.read (braced_at begins_field field_reading.read) (braced_same begins_field field_reading)
+
+pub head_same : (text : List Word) → head_reading.read text ≡ head_at text
+unfolding head_reading head_raw head_at phrase_at text_of
+head_same text =
+    (does_behind (words_in (codes "pub mod ")) (does_pair name (does_behind struct_head (does_pair fields (does_behind (words_in (codes "impl RegisterBlock {")) (calls access_reading)))))).does text (λ tree rest. Some (head_of tree, rest))
+
+-- ---- constants and markers
+
+constant_same : (before : Phrase) (text : List Word) → (constant_reading (text_of before)).read text ≡ constant_at before text
+unfolding constant_at phrase_at text_of
+constant_same before text =
+    (does_behind (words_in (text_of before)) (does_pair width (does_behind (words_in (codes " = ")) (does_followed (λ _. words_in (codes "; ")) hexadecimal)))).does text (λ tree rest. Some (constant_of tree, rest))
+
+constant : {B : Type 0} (before : Phrase) → Does Constant B (constant_reading (text_of before)).read (λ text next. constant_at before text >>= λ found. next found.0 found.1)
+constant before = does_known (constant_reading (text_of before)).read (constant_at before) (constant_same before)
+
+writable_same : (text : List Word) → writable_reading.read text ≡ writable_at text
+unfolding writable_reading writable_raw writable_at phrase_at text_of
+writable_same text =
+    (does_behind (words_in (codes "impl Writable for Spec { ")) (does_pair (constant phrase.ZeroToModify) (does_followed (λ _. words_in (codes "}")) (constant phrase.OneToModify)))).does text (λ tree rest. Some (writable_of tree, rest))
+
+reset_same : (text : List Word) → reset_reading.read text ≡ reset_at text
+unfolding reset_reading reset_raw reset_at phrase_at text_of
+reset_same text = reads (does_behind (words_in (codes "impl Resettable for Spec { ")) (does_followed (λ _. words_in (codes "}")) (constant phrase.ResetValue))) text
+
+pub marker_same : (text : List Word) → marker_reading.read text ≡ marker_at text
+unfolding marker_reading marker_at phrase_at text_of
+marker_same text = reads (does_behind (words_in (codes "pub struct ")) (does_followed (λ _. words_in (codes ";")) name)) text
+
+-- ---- readers and writers
+
+pub reader_same : (text : List Word) → reader_reading.read text ≡ reader_at text
+unfolding reader_reading reader_raw reader_at bit_reader_at bit_form_at field_reader_at field_form_at sign_then phrase_at text_of sign_at sign_word
+reader_same text =
+    (does_either (word_is 8 (codes "BitReader"))
+    (does_behind (words_in (codes "pub fn ")) (does_pair name (does_behind (words_in (codes "(&self) -> BitReader<")) (does_pair name (does_behind (words_in (codes "> { BitReader::new(((self.bits >> ")) (does_pair decimal (does_behind (words_in (codes ") & ")) (does_followed (λ _. words_in (codes ") != 0x0) }")) hexadecimal))))))))
+    (does_three (words_in (codes ") as ")) (λ (parts : Word × (Word × (Width × (ℕ × ℕ)))). width_word parts.1.1.0) (words_in (codes ") }"))
+    (does_behind (words_in (codes "pub fn ")) (does_pair name (does_behind (words_in (codes "(&self) -> FieldReader<")) (does_pair name (does_behind (words_in (codes ", ")) (does_pair width (does_behind (words_in (codes "> { FieldReader::new(((self.bits >> ")) (does_pair decimal (does_behind (words_in (codes ") & ")) hexadecimal))))))))))).does text (λ tree rest. Some (reader_of tree, rest))
+
+pub writer_same : (text : List Word) → writer_reading.read text ≡ writer_at text
+unfolding writer_reading writer_raw writer_at field_writer_at field_place_at bit_writer_at bit_place_at sign_then phrase_at text_of sign_at sign_word
+writer_same text =
+    (does_either (word_is 9 (codes "FieldWriter"))
+    (does_behind (words_in (codes "pub fn ")) (does_pair name (does_behind (words_in (codes "(&mut self) -> FieldWriter<'_, Spec, ")) (does_pair name (does_behind (words_in (codes ", ")) (does_pair width (does_behind (words_in (codes ", ")) (does_pair decimal (does_behind (words_in (codes "> { FieldWriter::new(self, ")) (does_followed (λ _. words_in (codes ") }")) decimal))))))))))
+    (does_pair (does_three (words_in (codes "> { ")) (λ (parts : Word × (BitKind × Word)). kind_word parts.1.0) (words_in (codes "::new(self, "))
+    (does_behind (words_in (codes "pub fn ")) (does_pair name (does_behind (words_in (codes "(&mut self) -> ")) (does_pair writer_kind (does_behind (words_in (codes "<'_, Spec, ")) name))))))
+    (does_followed (λ _. words_in (codes ") }")) decimal))).does text (λ tree rest. Some (writer_of tree, rest))
+
+-- ---- calls for values
+
+pub truth_test_same : (text : List Word) → truth_test.read text ≡ truth_call_at phrase.TestsBit phrase.ClosesBody text
+unfolding truth_test truth_call_at phrase_at text_of
+truth_test_same text =
+    (does_behind (words_in (codes "pub fn ")) (does_pair name (does_behind (words_in (codes "(&self) -> bool { self.bit() == ")) (does_followed (λ _. words_in (codes " }")) truth)))).does text (λ tree rest. Some (truth_call_of tree, rest))
+
+pub truth_write_same : (text : List Word) → truth_write.read text ≡ truth_call_at phrase.WritesBit phrase.ClosesCall text
+unfolding truth_write truth_call_at phrase_at text_of
+truth_write_same text =
+    (does_behind (words_in (codes "pub fn ")) (does_pair name (does_behind (words_in (codes "(self) -> &'a mut W<Spec> { self.bit(")) (does_followed (λ _. words_in (codes ") }")) truth)))).does text (λ tree rest. Some (truth_call_of tree, rest))
+
+pub number_test_same : (text : List Word) → number_test.read text ≡ number_call_at phrase.TestsNumber phrase.ClosesBody text
+unfolding number_test number_call_at phrase_at text_of
+number_test_same text =
+    (does_behind (words_in (codes "pub fn ")) (does_pair name (does_behind (words_in (codes "(&self) -> bool { self.bits() == ")) (does_followed (λ _. words_in (codes " }")) hexadecimal)))).does text (λ tree rest. Some (number_of tree, rest))
+
+pub number_write_same : (text : List Word) → number_write.read text ≡ number_call_at phrase.WritesNumber phrase.ClosesCall text
+unfolding number_write number_call_at phrase_at text_of
+number_write_same text =
+    (does_behind (words_in (codes "pub fn ")) (does_pair name (does_behind (words_in (codes "(self) -> &'a mut W<Spec> { self.bits(")) (does_followed (λ _. words_in (codes ") }")) hexadecimal)))).does text (λ tree rest. Some (number_of tree, rest))
+
+pub values_same : (text : List Word) → values_reading.read text ≡ values_at text
+unfolding values_reading values_raw bit_reading_raw field_reading_raw field_writing_raw bit_writing_raw values_at bit_reading_at field_reading_at writing_at field_writing_at field_bits_at bit_writing_at phrase_at text_of sign_at sign_word
+values_same text =
+    (does_either (word_is 1 (codes "BitReader"))
+    (does_behind (words_in (codes "impl BitReader<")) (does_pair name (does_behind (words_in (codes "> {")) (calls truth_test))))
+    (does_either (word_is 1 (codes "FieldReader"))
+    (does_behind (words_in (codes "impl FieldReader<")) (does_pair name (does_behind (words_in (codes ", ")) (does_pair width (does_behind (words_in (codes "> {")) (calls number_test))))))
+    (does_either (word_is 4 (codes "FieldWriter"))
+    (does_behind (words_in (codes "impl<'a> FieldWriter<'a, Spec, ")) (does_pair name (does_behind (words_in (codes ", ")) (does_pair width (does_behind (words_in (codes ", ")) (does_pair decimal (does_behind (words_in (codes "> {")) (calls number_write))))))))
+    (does_behind (words_in (codes "impl<'a> ")) (does_pair writer_kind (does_behind (words_in (codes "<'a, Spec, ")) (does_pair name (does_behind (words_in (codes "> {")) (calls truth_write))))))))).does text (λ tree rest. Some (values_of tree, rest))
+
+-- ---- register modules
+
+readers_same : (text : List Word) → readers_reading.read text ≡ readers_at text
+unfolding readers_reading readers_at phrase_at text_of
+readers_same text = reads (does_behind (words_in (codes "impl R<Spec> {")) (calls reader_reading)) text
+
+writers_same : (text : List Word) → writers_reading.read text ≡ writers_at text
+unfolding writers_reading writers_at phrase_at text_of
+writers_same text = reads (does_behind (words_in (codes "impl W<Spec> {")) (calls writer_reading)) text
+
+value_blocks : {B : Type 0} → Does (List Values) B values_part.read (λ text next. braced_at begins_impl values_reading.read text >>= λ found. next found.0 found.1)
+unfolding values_part begins_impl sign_at sign_word
+value_blocks = does_known values_part.read (braced_at begins_impl values_reading.read) (braced_same begins_impl values_reading)
+
+reset : {B : Type 0} → Does Constant B reset_reading.read (λ text next. reset_at text >>= λ found. next found.0 found.1)
+reset = does_known reset_reading.read reset_at reset_same
+
+pub register_same : (text : List Word) → register_reading.read text ≡ register_at text
+unfolding register_reading register_raw readable_part writable_part reset_part markers_part readers_part writers_part register_at parts_at readable_at writable_part_at readers_part_at writers_part_at impl_at begins_pub phrase_at text_of sign_at sign_word
+register_same text =
+    (does_behind (words_in (codes "pub mod ")) (does_pair name (does_behind register_head (does_pair width (does_behind (words_in (codes "; }"))
+    (does_flag (begins_impl_of (codes "Readable")) (words_in (codes "impl Readable for Spec {}")) writable_part
+    (does_option (begins_impl_of (codes "Writable")) writable_reading reset_part writable_same
+    (does_pair reset
+    (does_list (word_is 0 (codes "pub")) marker_reading readers_part
+    (does_option (begins_impl_of (codes "R")) readers_reading writers_part readers_same
+    (does_option (begins_impl_of (codes "W")) writers_reading values_part writers_same value_blocks))))))))))).does text (λ tree rest. Some (register_of tree, rest))

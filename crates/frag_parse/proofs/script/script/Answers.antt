@@ -1,9 +1,0 @@
-use Rattle.std.proofs.lemmas.Result.{err_from_is_err_and}
-use Rattle.frag_parse.specs.Reading.{script_at}
-use Rattle.frag_parse.proofs.Scripts.{told}
-use Rattle.frag_parse.proofs.script.script.Goals as goal
-
-pub returns-in_err-met : goal.returns-in_err-met
-returns-in_err-met c =
-    let fault = err_from_is_err_and c.from_residual.result c.from_residual.ensures.1 in
-    rw (fault.1, fault.2) (told c.in_err-met.field-0.0 (script_at c.args.bytes.now) c.in_err-met.ensures.refused)

@@ -1,0 +1,124 @@
+ghost use Rattle.std.specs.Prelude.{◌≡◌};
+ghost use Rattle.frag_words.specs.Words.{words_in};
+ghost use Rattle.frag_parse.specs.Reading.{Gives, parts_at, readers_at, readers_part_at, register_at, writers_at, writers_part_at};
+
+use crate::constant::{readable, reset, writable_part};
+use crate::fault::Stop;
+use crate::list::{braced, many};
+use crate::phrase::{Phrase, Sign};
+use crate::production::{Markers, Readers, ValueBlocks, Writers};
+use crate::starts::Starts;
+use crate::token::{expect, identifier, is_impl};
+use crate::word::width;
+use frag_tree::{Identifier, Reader, RegisterModule, Values, Writer};
+use pac_base::{Seq, Width};
+use std::alloc::Global;
+
+/// The calls of `impl R<Spec>`.
+#[tactic(auto, unfolding(crate::specs::Reading::readers_at))]
+fn readers<'a>(
+    alloc: Global,
+    starts: &mut Starts,
+    text: &'a [u8],
+) -> Result<(Seq<Reader>, &'a [u8]), Stop>
+    ensures { Gives (λ found. (found.0, words_in found.1.now)) result (readers_at (words_in text.now)) }
+{
+    let rest = expect(text, Phrase::ReadersImpl)?;
+    let (calls, rest) = braced::<Reader, Readers>(alloc, starts, rest)?;
+    Ok((calls, rest))
+}
+
+/// The calls of `impl W<Spec>`.
+#[tactic(auto, unfolding(crate::specs::Reading::writers_at))]
+fn writers<'a>(
+    alloc: Global,
+    starts: &mut Starts,
+    text: &'a [u8],
+) -> Result<(Seq<Writer>, &'a [u8]), Stop>
+    ensures { Gives (λ found. (found.0, words_in found.1.now)) result (writers_at (words_in text.now)) }
+{
+    let rest = expect(text, Phrase::WritersImpl)?;
+    let (calls, rest) = braced::<Writer, Writers>(alloc, starts, rest)?;
+    Ok((calls, rest))
+}
+
+/// The calls of `impl R<Spec>`, or nothing.
+#[tactic(auto, unfolding(crate::specs::Reading::readers_part_at))]
+fn readers_part<'a>(
+    alloc: Global,
+    starts: &mut Starts,
+    text: &'a [u8],
+) -> Result<(Option<Seq<Reader>>, &'a [u8]), Stop>
+    ensures { Gives (λ found. (found.0, words_in found.1.now)) result (readers_part_at (words_in text.now)) }
+{
+    if is_impl(text, Sign::R) {
+        let (readers, rest) = readers(alloc, starts, text)?;
+        return Ok((Some(readers), rest));
+    }
+    Ok((None, text))
+}
+
+/// The calls of `impl W<Spec>`, or nothing.
+#[tactic(auto, unfolding(crate::specs::Reading::writers_part_at))]
+fn writers_part<'a>(
+    alloc: Global,
+    starts: &mut Starts,
+    text: &'a [u8],
+) -> Result<(Option<Seq<Writer>>, &'a [u8]), Stop>
+    ensures { Gives (λ found. (found.0, words_in found.1.now)) result (writers_part_at (words_in text.now)) }
+{
+    if is_impl(text, Sign::W) {
+        let (writers, rest) = writers(alloc, starts, text)?;
+        return Ok((Some(writers), rest));
+    }
+    Ok((None, text))
+}
+
+/// What stands behind the type of a register module's word.
+#[tactic(auto, unfolding(crate::specs::Reading::parts_at))]
+fn parts<'a>(
+    alloc: Global,
+    starts: &mut Starts,
+    name: Identifier,
+    word: Width,
+    text: &'a [u8],
+) -> Result<(RegisterModule, &'a [u8]), Stop>
+    ensures { Gives (λ found. (found.0, words_in found.1.now)) result (parts_at name word (words_in text.now)) }
+{
+    let (readable, rest) = readable(text)?;
+    let (writable, rest) = writable_part(alloc, rest)?;
+    let (reset, rest) = reset(alloc, rest)?;
+    let (markers, rest) = many::<Identifier, Markers>(alloc, starts, rest)?;
+    let (readers, rest) = readers_part(alloc, starts, rest)?;
+    let (writers, rest) = writers_part(alloc, starts, rest)?;
+    let (values, rest) = braced::<Values, ValueBlocks>(alloc, starts, rest)?;
+    let unit = RegisterModule {
+        name,
+        word,
+        readable,
+        writable,
+        reset,
+        markers,
+        readers,
+        writers,
+        values,
+    };
+    Ok((unit, rest))
+}
+
+/// A register module.
+#[tactic(auto, unfolding(crate::specs::Reading::register_at))]
+pub(crate) fn register<'a>(
+    alloc: Global,
+    starts: &mut Starts,
+    text: &'a [u8],
+) -> Result<(RegisterModule, &'a [u8]), Stop>
+    ensures { Gives (λ found. (found.0, words_in found.1.now)) result (register_at (words_in text.now)) }
+{
+    let rest = expect(text, Phrase::PubMod)?;
+    let (name, rest) = identifier(alloc, rest)?;
+    let rest = expect(rest, Phrase::RegisterHead)?;
+    let (word, rest) = width(rest)?;
+    let rest = expect(rest, Phrase::ClosesWord)?;
+    parts(alloc, starts, name, word, rest)
+}

@@ -1,0 +1,30 @@
+ghost use Rattle.std.specs.Prelude.{◌≡◌};
+ghost use Rattle.frag_words.specs.Words.{words_in};
+ghost use Rattle.frag_parse.specs.Reading.{Gives, slot_at};
+
+use crate::fault::Stop;
+use crate::numeral::hexadecimal;
+use crate::phrase::Phrase;
+use crate::token::{expect, identifier};
+use frag_tree::Slot;
+use std::alloc::Global;
+
+/// `pub NAME: Periph<MODULE::RegisterBlock, ADDRESS>,`
+#[tactic(auto, unfolding(crate::specs::Reading::slot_at))]
+pub(crate) fn slot(alloc: Global, text: &[u8]) -> Result<(Slot, &[u8]), Stop>
+    ensures { Gives (λ found. (found.0, words_in found.1.now)) result (slot_at (words_in text.now)) }
+{
+    let rest = expect(text, Phrase::Pub)?;
+    let (name, rest) = identifier(alloc, rest)?;
+    let rest = expect(rest, Phrase::OpensPeriph)?;
+    let (block, rest) = identifier(alloc, rest)?;
+    let rest = expect(rest, Phrase::BlockThenComma)?;
+    let (address, rest) = hexadecimal(alloc, rest)?;
+    let rest = expect(rest, Phrase::ClosesSlot)?;
+    let slot = Slot {
+        name,
+        block,
+        address,
+    };
+    Ok((slot, rest))
+}

@@ -1,0 +1,47 @@
+ghost use Rattle.std.specs.Prelude.{◌≡◌};
+ghost use Rattle.frag_words.specs.Words.{words_in};
+ghost use Rattle.frag_parse.specs.Reading.{Gives, number_call_at, truth_call_at};
+
+use crate::fault::Stop;
+use crate::numeral::hexadecimal;
+use crate::phrase::Phrase;
+use crate::token::{expect, identifier};
+use crate::word::truth;
+use frag_tree::{NumberCall, TruthCall};
+use std::alloc::Global;
+
+/// A call that stands for a truth, of which the texts around the truth are these.
+#[tactic(auto, unfolding(crate::specs::Reading::truth_call_at))]
+pub(crate) fn truth_call(
+    alloc: Global,
+    middle: Phrase,
+    end: Phrase,
+    text: &[u8],
+) -> Result<(TruthCall, &[u8]), Stop>
+    ensures { Gives (λ found. (found.0, words_in found.1.now)) result (truth_call_at middle end (words_in text.now)) }
+{
+    let rest = expect(text, Phrase::PubFn)?;
+    let (name, rest) = identifier(alloc, rest)?;
+    let rest = expect(rest, middle)?;
+    let (value, rest) = truth(rest)?;
+    let rest = expect(rest, end)?;
+    Ok((TruthCall { name, value }, rest))
+}
+
+/// A call that stands for a number, of which the texts around the number are these.
+#[tactic(auto, unfolding(crate::specs::Reading::number_call_at))]
+pub(crate) fn number_call(
+    alloc: Global,
+    middle: Phrase,
+    end: Phrase,
+    text: &[u8],
+) -> Result<(NumberCall, &[u8]), Stop>
+    ensures { Gives (λ found. (found.0, words_in found.1.now)) result (number_call_at middle end (words_in text.now)) }
+{
+    let rest = expect(text, Phrase::PubFn)?;
+    let (name, rest) = identifier(alloc, rest)?;
+    let rest = expect(rest, middle)?;
+    let (value, rest) = hexadecimal(alloc, rest)?;
+    let rest = expect(rest, end)?;
+    Ok((NumberCall { name, value }, rest))
+}

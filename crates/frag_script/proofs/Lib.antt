@@ -1,0 +1,13 @@
+pub mod Grouping
+pub mod TokenWords
+pub mod Runs
+pub mod Taking
+pub mod Negations
+pub mod Lines
+pub mod TakenValues
+pub mod Scripts
+pub mod TakenStatements
+pub mod ScriptTakes
+pub mod Again
+pub mod AgainStatements
+pub mod ScriptAgain
