@@ -1,16 +1,14 @@
 -- The blocks of a crate, one after another, and the whole crate.
 use Rattle.std.proofs.Common.{ℕ, zero, suc, ◌≡◌, ◌<◌, ◌≤◌, arith, List, [], ◌∷◌, ◌++◌, length, map, Bool, true, false, Option, Some, None, refl, sym, ap, ◌∙◌, append_assoc, append-nil}
-use Rattle.std.specs.Prelude.{◌&&◌, codes, option_map}
+use Rattle.std.specs.Prelude.{◌&&◌, option_map}
 use Rattle.std.specs.List.{list_all}
 use Rattle.text_scan.specs.Steps.{◌>>=◌}
 use Rattle.frag_words.specs.Words.{Word, words_in}
-use Rattle.frag_words.specs.Readings.{then_read, expected}
-use Rattle.frag_words.proofs.Readings.{both, both_left, both_right, some_is}
-use Rattle.frag_tree.specs.Crates.{Parses, printed}
+use Rattle.frag_words.specs.Readings.{then_read}
+use Rattle.frag_words.proofs.Readings.{both, both_left, both_right}
 use Rattle.frag_tree.specs.ModuleProductions.{block_of, block_reading, crate_head, head_reading, modules_reading, read_blocks, read_crate, slots_reading, with_blocks}
 use Rattle.frag_tree.specs.Productions.{slot_reading}
-use Rattle.frag_tree.specs.Trees.{BlockHead, BlockTree, CrateTree, Modules, block_tree, crate_tree}
-use Rattle.frag_tree.specs.Validity.{valid_crate}
+use Rattle.frag_tree.specs.Trees.{BlockTree, CrateTree, block_tree, crate_tree}
 use Rattle.frag_tree.specs.declared.block.Block.{Block}
 use Rattle.frag_tree.specs.declared.krate.Crate.{Crate}
 use Rattle.frag_tree.specs.declared.krate.Slot.{Slot}
@@ -27,7 +25,7 @@ use Rattle.frag_parse.specs.Phrases.{text_of}
 use Rattle.frag_parse.specs.Reading.{Fails, Found, begins_pub, block_at, blocks_at, braced_at, crate_at, expects, head_at, is_end, phrase_at}
 use Rattle.frag_parse.proofs.Depth.{inside_within, passed_on, refuses_same, stopped}
 use Rattle.frag_parse.proofs.Lists.{joined, joined-nil}
-use Rattle.frag_parse.proofs.ModuleSteps.{all_modules, as_block, block_shrinks}
+use Rattle.frag_parse.proofs.ModuleSteps.{all_modules, block_shrinks}
 use Rattle.frag_parse.proofs.Same.{head_same, slots_same}
 use Rattle.frag_parse.proofs.Steps.{does_known, does_pair, expected_is}
 

@@ -1,11 +1,11 @@
 -- How deep modules nest, and what is refused for that.
-use Rattle.std.proofs.Common.{ℕ, zero, suc, ◌≡◌, List, [], ◌∷◌, ◌++◌, map, Bool, true, false, Option, Some, None, refl, sym, ap, ◌∙◌, inl, inr, append_assoc, append-nil}
+use Rattle.std.proofs.Common.{ℕ, zero, suc, ◌≡◌, List, [], ◌∷◌, ◌++◌, map, Bool, true, false, Option, Some, None, refl, sym, ap, ◌∙◌}
 use Rattle.std.specs.Prelude.{◌&&◌, if◌then◌else◌}
 use Rattle.std.specs.List.{list_all}
 use Rattle.text_scan.specs.Steps.{◌>>=◌}
 use Rattle.frag_words.specs.Words.{Word}
 use Rattle.frag_words.proofs.Readings.{both, both_left, both_right}
-use Rattle.frag_tree.specs.Trees.{BlockHead, BlockTree, ModuleTree, Modules, before, block_layer, ended, register, block, block_tree, in_line, module_layer, module_tree, one_block, one_register}
+use Rattle.frag_tree.specs.Trees.{BlockHead, BlockTree, ModuleTree, Modules, before, block_layer, ended, block_tree, in_line, module_layer, module_tree, one_block, one_register}
 use Rattle.frag_tree.specs.declared.block.Block.{Block, roll-Block}
 use Rattle.frag_tree.specs.declared.block.Module.TheFolds.{fold-roll-Block}
 use Rattle.frag_tree.specs.declared.block.Module.TheOpen.{Block-F}

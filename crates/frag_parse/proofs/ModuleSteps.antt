@@ -1,18 +1,15 @@
 -- The modules of one parent, read one after another.
-use Rattle.std.proofs.Common.{ℕ, zero, suc, ◌≡◌, ◌<◌, ◌≤◌, arith, List, [], ◌∷◌, ◌++◌, length, length-append, map, Bool, true, false, Option, Some, None, refl, sym, ap, ◌∙◌, inl, inr, drop}
-use Rattle.std.specs.Prelude.{◌&&◌, codes, if◌then◌else◌}
-use Rattle.std.specs.List.{list_all}
-use Rattle.std.proofs.lemmas.Bool.{cases_Bool}
+use Rattle.std.proofs.Common.{ℕ, zero, suc, ◌≡◌, ◌<◌, ◌≤◌, arith, List, [], ◌∷◌, length, length-append, Bool, true, false, Option, Some, None, refl, sym, ap, ◌∙◌, drop}
+use Rattle.std.specs.Prelude.{codes, if◌then◌else◌}
 use Rattle.text_scan.specs.Steps.{◌>>=◌}
-use Rattle.text_scan.proofs.Steps.{cases_option}
 use Rattle.frag_words.specs.Words.{Word, words_in, words_behind}
-use Rattle.frag_words.specs.Readings.{IsExact, Reading, expected, then_read, word_is}
+use Rattle.frag_words.specs.Readings.{expected, then_read, word_is}
 use Rattle.frag_words.proofs.Readings.{expected_some, some_is, then_some}
 use Rattle.frag_tree.specs.Blocks.{opening_lines}
 use Rattle.frag_tree.specs.Registers.{register_lines}
 use Rattle.frag_tree.specs.ModuleProductions.{head_reading, modules_reading, read_modules, with_block, with_end, with_register}
 use Rattle.frag_tree.specs.RegisterProductions.{register_reading}
-use Rattle.frag_tree.specs.Trees.{BlockHead, BlockTree, ModuleTree, Modules, before, ended, register, block, in_line, one_block, one_register}
+use Rattle.frag_tree.specs.Trees.{BlockHead, BlockTree, ModuleTree, Modules, before, ended, register, block, one_block, one_register}
 use Rattle.frag_tree.specs.declared.register.RegisterModule.{RegisterModule}
 use Rattle.frag_tree.proofs.Braced.{one_word}
 use Rattle.frag_tree.proofs.ModuleProductions.{head_exact}
@@ -20,7 +17,7 @@ use Rattle.frag_tree.proofs.RegisterModules.{register_exact}
 use Rattle.frag_parse.specs.declared.phrase.Phrase.TheVariants as phrase
 use Rattle.frag_parse.specs.declared.phrase.Sign.TheVariants as sign
 use Rattle.frag_parse.specs.Phrases.{sign_word, text_of}
-use Rattle.frag_parse.specs.Reading.{Found, Shrinks, block_at, expects, head_at, module_at, phrase_at, register_at, sign_at}
+use Rattle.frag_parse.specs.Reading.{Found, Shrinks, block_at, head_at, module_at, phrase_at, register_at, sign_at}
 use Rattle.frag_parse.specs.Shrinking.{shrinks_of}
 use Rattle.frag_parse.proofs.Same.{head_same, register_same}
 use Rattle.frag_parse.proofs.Steps.{expected_is}

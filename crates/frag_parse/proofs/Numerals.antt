@@ -1,5 +1,5 @@
 -- The words that are numerals: exactly those that are printed for their number.
-use Rattle.std.proofs.Common.{ℕ, zero, suc, ◌≡◌, ◌<◌, ◌≤◌, ◌/◌, ◌%◌, arith, List, [], ◌∷◌, ◌++◌, drop, Bool, true, false, Option, Some, None, refl, sym, ap, ◌∙◌, inl, inr}
+use Rattle.std.proofs.Common.{ℕ, zero, suc, ◌≡◌, ◌<◌, ◌/◌, ◌%◌, arith, List, [], ◌∷◌, drop, Bool, true, false, Some, None, refl, sym, ap, ◌∙◌, inl, inr}
 use Rattle.std.specs.Prelude.{◌&&◌, ◌==◌, ◌^◌, nat_lt, codes, if◌then◌else◌}
 use Rattle.std.specs.Fmt.{digits, digits_onto, digit_glyph}
 use Rattle.std.specs.List.{list_all}
@@ -15,7 +15,7 @@ use Rattle.text_scan.specs.declared.radix.Radix.TheVariants.{Decimal, Hexadecima
 use Rattle.text_scan.proofs.FixedText.{stripped-append, stripped-Some}
 use Rattle.text_scan.proofs.Steps.{guard_some}
 use Rattle.frag_words.specs.Words.{Word}
-use Rattle.frag_words.proofs.Readings.{both, both_left, both_right}
+use Rattle.frag_words.proofs.Readings.{both, both_right}
 use Rattle.frag_tree.specs.Numerals.{decimal_word, hexadecimal_word}
 use Rattle.frag_tree.specs.Productions.{numeral_at}
 use Rattle.frag_tree.specs.Validity.{is_number}

@@ -1,15 +1,15 @@
 -- The productions of the crate text are read as the code reads them.
-use Rattle.std.proofs.Common.{ℕ, ◌≡◌, List, [], ◌∷◌, ◌++◌, Bool, true, false, Option, Some, None, refl, sym, ap, ◌∙◌}
+use Rattle.std.proofs.Common.{ℕ, ◌≡◌, List, [], ◌∷◌, Bool, true, false, Option, Some, None, refl}
 use Rattle.std.specs.Prelude.{codes, drop, if◌then◌else◌}
 use Rattle.text_scan.specs.Steps.{◌>>=◌}
 use Rattle.text_scan.specs.Numbers.{value_of}
 use Rattle.frag_words.specs.Words.{Word, words_in}
-use Rattle.frag_words.specs.Readings.{Reading, among, fixed_words, list_until, truth_of as side_truth, word_at, word_is}
+use Rattle.frag_words.specs.Readings.{Reading, among, fixed_words, list_until, truth_of as side_truth, word_is}
 use Rattle.frag_tree.specs.Identifiers.{is_identifier}
 use Rattle.frag_tree.specs.Numerals.{decimal_word, hexadecimal_word, truth_word, width_word}
 use Rattle.frag_tree.specs.Registers.{kind_word}
 use Rattle.frag_tree.specs.Productions.{identifier, numeral_at, hexadecimal_reading, decimal_reading, width_reading, truth_reading, kind_reading, slot_of, slot_raw, slot_reading, element_of, element_raw, element_reading, type_of, type_raw, type_reading, field_of, field_raw, field_reading, body_of, body_raw, body_reading, index_reading, access_of, access_raw, access_reading}
-use Rattle.frag_tree.specs.RegisterProductions.{constant_of, constant_reading, writable_of, writable_raw, writable_reading, reset_raw, reset_reading, marker_reading, reader_of, reader_raw, reader_reading, writer_of, writer_raw, writer_reading, truth_of as truth_call_of, truth_raw, truth_test, truth_write, number_of, number_raw, number_test, number_write, calls_until, bit_reading_raw, field_reading_raw, bit_writing_raw, field_writing_raw, values_of, values_raw, values_reading, begins_impl as begins_impl_of, readers_reading, writers_reading, values_part, writers_part, readers_part, markers_part, reset_part, writable_part, readable_part, register_head, register_raw, register_of, register_reading}
+use Rattle.frag_tree.specs.RegisterProductions.{constant_of, constant_reading, writable_of, writable_raw, writable_reading, reset_raw, reset_reading, marker_reading, reader_of, reader_raw, reader_reading, writer_of, writer_raw, writer_reading, truth_of as truth_call_of, truth_test, truth_write, number_of, number_test, number_write, calls_until, bit_reading_raw, field_reading_raw, bit_writing_raw, field_writing_raw, values_of, values_raw, values_reading, begins_impl as begins_impl_of, readers_reading, writers_reading, values_part, writers_part, readers_part, markers_part, reset_part, writable_part, readable_part, register_head, register_raw, register_of, register_reading}
 use Rattle.frag_tree.specs.ModuleProductions.{head_of, struct_head, fields_reading, head_raw, head_reading, slots_reading}
 use Rattle.frag_tree.specs.declared.access.Body.{Body}
 use Rattle.frag_tree.specs.declared.block.Element.{Element}
@@ -25,7 +25,7 @@ use Rattle.frag_parse.specs.declared.phrase.Phrase.{Phrase}
 use Rattle.frag_parse.specs.declared.phrase.Phrase.TheVariants as phrase
 use Rattle.frag_parse.specs.Phrases.{sign_word, text_of}
 use Rattle.frag_parse.specs.Reading.{Found, access_at, array_at, begins_field, begins_impl, begins_pub, bit_form_at, bit_place_at, bit_reader_at, bit_reading_at, bit_writer_at, bit_writing_at, block_element_at, body_at, braced_at, constant_at, decimal_at, decimal_of, element_at, far_body_at, field_at, field_bits_at, field_body_at, field_form_at, field_place_at, field_reader_at, field_reading_at, field_writer_at, field_writing_at, first_at, gap_at, head_at, hexadecimal_at, hexadecimal_of, impl_at, index_at, indexed_at, kind_at, kind_of, marker_at, member_body_at, name_at, name_of, number_call_at, offset_body_at, own_body_at, parts_at, phrase_at, plain_at, readable_at, reader_at, readers_at, readers_part_at, register_at, register_element_at, reset_at, sign_at, sign_then, single_at, slot_at, strided_body_at, truth_at, truth_call_at, truth_of, type_at, values_at, width_at, width_of, writable_at, writable_part_at, writer_at, writers_at, writers_part_at, writing_at}
-use Rattle.frag_parse.proofs.Steps.{Does, reads, does_known, does_behind, does_pair, does_followed, does_three, does_mapped, does_either, does_nothing, does_flag, does_list, does_option, value_is}
+use Rattle.frag_parse.proofs.Steps.{Does, reads, does_known, does_behind, does_pair, does_followed, does_three, does_either, does_nothing, does_flag, does_list, does_option, value_is}
 
 -- ---- words
 

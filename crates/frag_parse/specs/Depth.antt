@@ -1,5 +1,5 @@
 -- What the readers that count the depth of modules tell.
-use Rattle.std.specs.Prelude.{◌≡◌, Bool, true, false, List, [], Option, Some, None, Result, Ok, Err}
+use Rattle.std.specs.Prelude.{◌≡◌, Bool, true, false, List, [], Some, None, Result, Ok, Err}
 use Rattle.frag_words.specs.Words.{Word}
 use Rattle.frag_tree.specs.Trees.{BlockHead, CrateTree, crate_tree}
 use Rattle.frag_tree.specs.declared.krate.Crate.{Crate}

@@ -1,5 +1,5 @@
 -- No item of a list is without words.
-use Rattle.std.proofs.Common.{ℕ, ◌≡◌, ◌≤◌, ◌<◌, ◌+◌, arith, List, [], ◌∷◌, ◌++◌, length, length-append, ap, drop, Some}
+use Rattle.std.proofs.Common.{◌≤◌, arith, length, length-append, ap, drop}
 use Rattle.std.specs.Prelude.{codes}
 use Rattle.frag_words.specs.Readings.{IsExact, Reading}
 use Rattle.frag_words.specs.Words.{Word, words_behind}

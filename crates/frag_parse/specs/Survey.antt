@@ -1,5 +1,5 @@
 -- Whether a text is a crate, however deep its modules nest: a survey that counts the open block modules.
-use Rattle.std.specs.Prelude.{ℕ, zero, suc, ◌+◌, ◌-◌, ◌==◌, Bool, true, false, List, Option, Some, None, if◌then◌else◌}
+use Rattle.std.specs.Prelude.{ℕ, zero, suc, ◌+◌, ◌-◌, ◌==◌, List, Option, Some, None, if◌then◌else◌}
 use Rattle.text_scan.specs.Steps.{◌>>=◌}
 use Rattle.frag_words.specs.Words.{Word}
 use Rattle.frag_tree.specs.ModuleProductions.{modules_reading}

@@ -1,4 +1,4 @@
-use Rattle.std.proofs.Common.{ℕ, ◌+◌, ◌*◌, length}
+use Rattle.std.proofs.Common.{◌+◌, ◌*◌, length}
 use Rattle.frag_words.specs.Words.{words_in}
 use Rattle.frag_parse.proofs.ModuleSteps.{all_modules}
 use Rattle.frag_parse.proofs.Depth.{SoFar}
