@@ -1,5 +1,5 @@
 -- Counting elements one after another, up to 2^64 - 1.
-use Rattle.std.proofs.Common.{◌≡◌, ℕ, suc, ◌+◌, ◌-◌, ◌*◌, ◌^◌, ◌<◌, ◌≤◌, min, Bool, true, cond, List, [], ◌∷◌, ◌++◌, length, map, drop, slice_index_or, refl, sym, ap, ap₂, ◌∙◌, arith, add-one, drop-cons}
+use Rattle.std.proofs.Common.{◌≡◌, ℕ, suc, ◌+◌, ◌-◌, ◌^◌, ◌<◌, ◌≤◌, min, true, cond, List, [], ◌∷◌, length, map, drop, slice_index_or, refl, sym, ap, ◌∙◌, arith, add-one, drop-cons}
 use Rattle.std.proofs.lemmas.List.{drop_all}
 use Rattle.svd_model.specs.declared.device.Child.{Child}
 use Rattle.svd_model.specs.declared.device.Child.TheVariants.{Cluster, Register}
@@ -11,11 +11,11 @@ use Rattle.svd_model.specs.declared.device.Values.{Values}
 use Rattle.svd_model.specs.Counting.{told_count, elements_in}
 use Rattle.svd_model.specs.Facts.{is_counted}
 use Rattle.svd_model.specs.Keys.{Key}
-use Rattle.svd_model.specs.Steps.{Step, Kind, cluster, register, set, value}
+use Rattle.svd_model.specs.Steps.{Step, Kind, set, value}
 use Rattle.svd_model.specs.Trees.{child_tree, item_under, field_under, set_tree, value_tree, numbered, step_of}
 use Rattle.svd_model.proofs.Trees.{child_tree-cluster, child_tree-register, cluster_tree-below, item_under-is}
 use Rattle.svd_rows.specs.Elements.{count}
-use Rattle.svd_rows.specs.Forest.{Forest, Tree, siblings}
+use Rattle.svd_rows.specs.Forest.{Tree, siblings}
 
 -- sums that stop at a greatest number
 sums : (most t c r : ℕ) → min (min (t + min c most) most + r) most ≡ min (t + (c + r)) most

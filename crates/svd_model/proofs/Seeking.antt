@@ -1,18 +1,17 @@
 -- What is sought in a tree, and in its rows.
-use Rattle.std.proofs.Common.{◌≡◌, ℕ, ◌+◌, ◌≤◌, Bool, true, false, ◌&&◌, ◌||◌, not, cond, List, [], ◌∷◌, ◌++◌, map, reverse, Option, Some, None, option_map, is_some, refl, sym, ap, ap₂, ◌∙◌, subst, arith, append-nil}
-use Rattle.std.specs.List.{list_any, list_all, find, AllByRecursion}
+use Rattle.std.proofs.Common.{◌≡◌, ℕ, Bool, true, false, ◌||◌, cond, List, [], ◌∷◌, ◌++◌, map, reverse, Option, Some, None, option_map, refl, sym, ap, ap₂, ◌∙◌}
+use Rattle.std.specs.List.{list_any, find}
 use Rattle.std.specs.Option.{option_or}
 use Rattle.std.proofs.lemmas.List.{map-append, reverse-append}
 use Rattle.std.proofs.lemmas.List.Folds.{find-append}
 use Rattle.pac_base.specs.declared.path.Step.{Step as NamedStep}
 use Rattle.svd_model.specs.declared.passages.Sought.{Sought}
-use Rattle.svd_model.specs.declared.passages.Sought.TheVariants.{Source}
 use Rattle.svd_model.specs.Keys.{Key}
 use Rattle.svd_model.specs.Steps.{Step, Kind, peripheral, cluster, register, field, set, value}
 use Rattle.svd_model.specs.Unbuilt.{sought_step, sought_key, is_sought, shown_names, plain_step, shown, first_unbuilt, way_here, first_way}
 use Rattle.svd_rows.specs.Forest.{Forest, Tree, leaf, node}
 use Rattle.svd_rows.specs.LookUps.{ends_with}
-use Rattle.svd_rows.specs.Rows.{Row, Said, element, states, is_element, own, under, forest_rows, rows}
+use Rattle.svd_rows.specs.Rows.{Row, element, states, is_element, own, under, forest_rows, rows}
 
 find-map : {X Y : Type 0} (p : Y → Bool) (f : X → Y) (xs : List X) → find p (map f xs) ≡ option_map f (find (λ x. p (f x)) xs)
 find-map p f [] = refl

@@ -1,18 +1,17 @@
 -- A device in which nothing is sought has the fact of the next state.
-use Rattle.std.proofs.Common.{◌≡◌, ℕ, ◌≤◌, ◌<◌, ◌^◌, Bool, true, false, ◌||◌, not, cond, List, [], ◌∷◌, ◌++◌, Option, Some, None, option_map, inr, refl, sym, ap, ◌∙◌, arith}
-use Rattle.std.specs.List.{list_any, list_all, AllByRecursion}
+use Rattle.std.proofs.Common.{◌≡◌, ℕ, Bool, true, false, ◌||◌, cond, List, [], ◌∷◌, ◌++◌, Option, Some, None, option_map, refl, sym, ◌∙◌}
+use Rattle.std.specs.List.{list_any}
 use Rattle.std.specs.Option.{option_or}
-use Rattle.pac_base.specs.Names.{is_word_byte}
 use Rattle.svd_model.specs.declared.device.Device.{Device}
 use Rattle.svd_model.specs.declared.passages.Sought.{Sought}
 use Rattle.svd_model.specs.declared.passages.Sought.TheVariants.{Source}
-use Rattle.svd_model.specs.Facts.{IsFolded, IsElement, IsPlacedOrDerived, IsPlaced, HasForm, IsDescribed, IsDerived, is_offset, is_derived}
-use Rattle.svd_model.specs.Keys.{Key, derived_from, dim_count, base_address, at_offset, bit_width}
+use Rattle.svd_model.specs.Facts.{IsElement, IsPlacedOrDerived, IsPlaced, HasForm, IsDescribed, IsDerived, is_offset, is_derived}
+use Rattle.svd_model.specs.Keys.{Key}
 use Rattle.svd_model.specs.Steps.{Step, Kind, peripheral, cluster, register, field, set, value}
 use Rattle.svd_model.specs.Trees.{device_tree, device_rows}
 use Rattle.svd_model.specs.Unbuilt.{sought_step, sought_key, first_way, first_source, first_unbuilt, shown_names}
 use Rattle.svd_rows.specs.Elements.{Every}
-use Rattle.svd_rows.specs.Forest.{Forest, Tree, leaf, node}
+use Rattle.svd_rows.specs.Forest.{Forest, leaf, node}
 use Rattle.svd_model.proofs.Seeking.{upward, first_unbuilt-rows}
 use Rattle.svd_model.proofs.SoughtKeys.{device-keys}
 

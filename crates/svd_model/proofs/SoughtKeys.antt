@@ -14,17 +14,16 @@ use Rattle.svd_model.specs.declared.device.Variant.{Variant}
 use Rattle.svd_model.specs.declared.passages.Sought.{Sought}
 use Rattle.svd_model.specs.declared.passages.Sought.TheVariants.{Source}
 use Rattle.pac_base.specs.declared.path.Step.{Step as NamedStep}
-use Rattle.svd_values.specs.declared.index.DimIndex.{DimIndex}
 use Rattle.svd_model.specs.Facts.{is_derived}
 use Rattle.svd_model.specs.Keys.{Key, rank, derived_from, dim_count, dim_increment, dim_index, register_size, register_access, reset_value, reset_mask}
 use Rattle.svd_model.specs.Steps.{Step, set, value}
 use Rattle.svd_model.specs.Trees.{device_places, peripheral_places, cluster_places, register_places, field_places, set_places, value_places, set_tree, value_tree, numbered, field_under, peripheral_under}
-use Rattle.svd_model.specs.Unbuilt.{sought_step, sought_key, first_way, way_to, way_here, is_sought_at, is_sought_set, shown_names, register_under, cluster_under}
+use Rattle.svd_model.specs.Unbuilt.{sought_step, sought_key, first_way, way_to, is_sought_at, is_sought_set, shown_names, register_under, cluster_under}
 use Rattle.svd_model.specs.declared.device.Cluster.{Cluster, out-Cluster}
 use Rattle.svd_model.specs.declared.sibling.Sibling.{Sibling}
 use Rattle.svd_model.proofs.Trees.{cluster_tree-is}
 use Rattle.svd_model.proofs.Placed.{device-placed, peripheral-placed, cluster-placed, register-placed, field-placed, set-placed, value-placed}
-use Rattle.svd_rows.specs.Forest.{Forest, Tree, leaf, node, siblings}
+use Rattle.svd_rows.specs.Forest.{Tree, siblings}
 use Rattle.svd_rows.specs.Ranks.{IsPlaced, stated}
 
 -- the keys that tell what is sought

@@ -1,18 +1,16 @@
 -- The elements that the rows of a tree tell are those that a walk of the tree meets.
-use Rattle.std.proofs.Common.{◌≡◌, ℕ, ◌+◌, suc, Bool, true, false, ◌&&◌, not, cond, List, [], ◌∷◌, ◌++◌, map, filter, length, drop, Option, Some, None, option_and_then, refl, sym, ap, ap₂, ◌∙◌, subst, append_assoc, append-nil}
-use Rattle.std.specs.List.{AllByRecursion}
+use Rattle.std.proofs.Common.{◌≡◌, Bool, true, false, ◌&&◌, cond, List, [], ◌∷◌, ◌++◌, map, filter, length, drop, Some, option_and_then, refl, sym, ap, ap₂, ◌∙◌, subst, append_assoc, append-nil}
 use Rattle.std.proofs.lemmas.List.{map-append}
 use Rattle.svd_model.specs.Keys.{Key}
 use Rattle.svd_model.specs.Stating.{keys_at, paths_of, ways_down, keys_down}
 use Rattle.svd_model.specs.Steps.{Step, same_step}
-use Rattle.svd_model.specs.Visits.{Visit, visit_at, visits_of, visit_below, visits, RowsTellVisits}
+use Rattle.svd_model.specs.Visits.{Visit, visit_at, visits_of, visits, RowsTellVisits}
 use Rattle.svd_model.proofs.Steps.{same_step-tells}
 use Rattle.svd_rows.specs.Elements.{IsDistinct, IsAbsent, child_at, element_at}
 use Rattle.svd_rows.specs.Forest.{Forest, Tree, leaf, node, join, steps}
 use Rattle.svd_rows.specs.LookUps.{inside, seen_below, keys_of}
 use Rattle.svd_rows.specs.Paths.{exactly, begins, is_within}
-use Rattle.svd_rows.specs.Rows.{Row, Said, element, states, is_element, own, under, forest_rows, rows}
-use Rattle.svd_rows.proofs.Facts.{steps-join}
+use Rattle.svd_rows.specs.Rows.{Row, Said, states, is_element, own, under, forest_rows, rows}
 use Rattle.svd_rows.proofs.Lists.{map-map, map_agree}
 use Rattle.svd_rows.proofs.LookUps.{inside-rows, keys_of-rows}
 use Rattle.svd_rows.proofs.Standing.{element_at-stands}

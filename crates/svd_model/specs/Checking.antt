@@ -2,7 +2,7 @@
 -- faults, by their kinds and then in document order. The sizes are those of CMSIS-SVD 1.3; that an address has
 -- 64 bits and is a multiple of its register's width, and that siblings may not share one accessor name, are this
 -- project's own rules.
-use Rattle.std.specs.Prelude.{ℕ, ◌+◌, ◌/◌, ◌%◌, ◌^◌, Bool, true, false, ◌&&◌, ◌||◌, not, nat_le, nat_lt, nat_eq, List, [], ◌∷◌, ◌++◌, map, filter, reverse, unwrap_or, if◌then◌else◌}
+use Rattle.std.specs.Prelude.{ℕ, ◌+◌, ◌%◌, ◌^◌, Bool, true, false, ◌&&◌, not, nat_le, nat_lt, nat_eq, List, [], ◌∷◌, ◌++◌, map, filter, reverse, unwrap_or, if◌then◌else◌}
 use Rattle.std.specs.List.{list_any}
 use Rattle.std.specs.Str.{bytes_eq}
 use Rattle.pac_base.specs.Widths.{bits_of}

@@ -6,7 +6,7 @@ use Rattle.svd_model.specs.declared.props.Props.{Props}
 use Rattle.svd_model.specs.Keys.{Key, dim_count, dim_increment, base_address, at_offset, bit_width, register_size, register_access, reset_value, reset_mask, write_kind, value_usage, enumerated_value}
 use Rattle.svd_model.specs.Properties.{nearest}
 use Rattle.svd_model.specs.Steps.{Step, Kind, same_kind, same_step}
-use Rattle.svd_rows.specs.LookUps.{inside, keys_of, ends_with, is_element_of}
+use Rattle.svd_rows.specs.LookUps.{inside, keys_of, ends_with}
 use Rattle.svd_rows.specs.Rows.{Row, is_element}
 use Rattle.svd_values.specs.declared.schema_word.Access.{Access}
 use Rattle.svd_values.specs.declared.schema_word.Usage.{Usage}

@@ -1,6 +1,6 @@
 -- Which elements stand in the way while deriving isn't built: the first in document order is told. This project's
 -- own rule.
-use Rattle.std.specs.Prelude.{◌≡◌, ℕ, Bool, true, false, ◌&&◌, ◌||◌, List, [], ◌∷◌, ◌++◌, Option, Some, None, option_map, is_some, Result, Ok, Err, ⊤, if◌then◌else◌}
+use Rattle.std.specs.Prelude.{◌≡◌, ℕ, Bool, false, ◌&&◌, ◌||◌, List, [], ◌∷◌, ◌++◌, Option, Some, None, option_map, is_some, Result, Ok, Err, ⊤, if◌then◌else◌}
 use Rattle.std.specs.List.{list_any, find}
 use Rattle.std.specs.Option.{option_or}
 use Rattle.pac_base.specs.declared.path.Step.{Step as NamedStep}
@@ -15,7 +15,7 @@ use Rattle.svd_model.specs.declared.passages.Sought.{Sought}
 use Rattle.svd_model.specs.declared.passages.Sought.TheVariants.{Source}
 use Rattle.svd_model.specs.Facts.{is_derived}
 use Rattle.svd_model.specs.Keys.{Key}
-use Rattle.svd_model.specs.Steps.{Step, Kind, peripheral, cluster, register, field, set, value}
+use Rattle.svd_model.specs.Steps.{Step, Kind, cluster, register, set, value}
 use Rattle.svd_model.specs.Trees.{step_of, register_tree, cluster_tree}
 use Rattle.svd_rows.specs.Forest.{Forest, Tree, leaf, node}
 use Rattle.svd_rows.specs.LookUps.{ends_with}

@@ -1,8 +1,6 @@
-use Rattle.std.proofs.Common.{◌≡◌, ◌+◌, zero-add, refl, sym, map, drop, arith, ap, ◌∙◌}
-use Rattle.svd_model.specs.declared.device.Item.{out-Item}
-use Rattle.svd_model.specs.declared.device.Cluster.{out-Cluster}
+use Rattle.std.proofs.Common.{◌+◌, zero-add, sym, map, drop, arith, ap, ◌∙◌}
 use Rattle.svd_model.specs.Counting.{told_count, elements_in}
-use Rattle.svd_model.specs.Trees.{item_under, child_tree}
+use Rattle.svd_model.specs.Trees.{item_under}
 use Rattle.svd_rows.specs.Forest.{siblings}
 use Rattle.svd_model.proofs.Counts.{counted_on, counted_all, told-fits, item-counted, item-below, items-next, items-none, cluster-below, register-below}
 use Rattle.svd_model.proofs.counting.+count.Goals as goal

@@ -1,4 +1,4 @@
-use Rattle.std.proofs.Common.{◌≡◌, ◌+◌, zero-add, refl, map, arith, ap, ◌∙◌}
+use Rattle.std.proofs.Common.{◌+◌, zero-add, refl, map, arith, ap, ◌∙◌}
 use Rattle.svd_model.specs.Counting.{told_count, elements_in}
 use Rattle.svd_model.specs.Steps.{field, set}
 use Rattle.svd_model.specs.Trees.{set_tree, numbered, field_under, field_tree, step_of}

@@ -1,4 +1,4 @@
-use Rattle.std.proofs.Common.{◌≡◌, ◌+◌, zero-add, refl, map, arith, ap, ◌∙◌}
+use Rattle.std.proofs.Common.{◌+◌, zero-add, refl, map, arith, ap, ◌∙◌}
 use Rattle.svd_model.specs.Counting.{told_count, elements_in}
 use Rattle.svd_model.specs.Steps.{peripheral}
 use Rattle.svd_model.specs.Trees.{item_under, peripheral_under, peripheral_tree, step_of}

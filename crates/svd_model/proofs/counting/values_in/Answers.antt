@@ -1,4 +1,4 @@
-use Rattle.std.proofs.Common.{◌≡◌, ◌+◌, ◌≤◌, ◌-◌, ◌^◌, map, drop, arith, ap, zero-add}
+use Rattle.std.proofs.Common.{map, arith, ap, zero-add}
 use Rattle.svd_model.specs.Counting.{told_count, elements_in}
 use Rattle.svd_model.specs.Steps.{set}
 use Rattle.svd_model.specs.Trees.{set_tree, numbered}

@@ -1,9 +1,7 @@
 -- The way to the first child is the first way where there is one.
-use Rattle.std.proofs.Common.{◌≡◌, ◌+◌, map, drop, sym, ◌∙◌, ap, option_map, Some}
-use Rattle.svd_model.specs.declared.device.Cluster.{out-Cluster}
-use Rattle.svd_model.specs.Steps.{cluster, register}
+use Rattle.std.proofs.Common.{◌+◌, map, drop, sym, ◌∙◌, ap, option_map, Some}
 use Rattle.svd_model.specs.Trees.{item_under, child_tree, step_of}
-use Rattle.svd_model.specs.Unbuilt.{first_way, way_to, register_under, cluster_under}
+use Rattle.svd_model.specs.Unbuilt.{first_way, cluster_under}
 use Rattle.svd_rows.specs.Forest.{siblings}
 use Rattle.svd_model.proofs.SoughtKeys.{first_way-found, first_way-passed, first_way-none, from_place, drop_past, cluster-here, way_to-here, way_to-below}
 use Rattle.svd_model.proofs.Trees.{child_tree-cluster, child_tree-register, item_under-is, cluster_tree-below}

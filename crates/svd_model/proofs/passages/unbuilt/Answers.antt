@@ -1,5 +1,5 @@
 -- The first way in the tree is the path of the first row.
-use Rattle.std.proofs.Common.{◌≡◌, sym, ◌∙◌, ap, option_map, Some}
+use Rattle.std.proofs.Common.{sym, ◌∙◌, ap, option_map, Some}
 use Rattle.svd_model.specs.Trees.{device_tree}
 use Rattle.svd_model.proofs.Seeking.{upward, first_unbuilt-rows}
 use Rattle.svd_model.proofs.SoughtKeys.{device-keys}

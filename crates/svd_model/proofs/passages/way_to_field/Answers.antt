@@ -1,5 +1,5 @@
 -- A field is sought itself, or one of its sets is.
-use Rattle.std.proofs.Common.{◌≡◌, sym, ◌∙◌, ap, Some}
+use Rattle.std.proofs.Common.{sym, ◌∙◌, ap, Some}
 use Rattle.svd_model.specs.Unbuilt.{is_sought_set}
 use Rattle.svd_model.proofs.SoughtKeys.{field-way, field-way-here, field-way-set}
 use Rattle.svd_model.proofs.passages.way_to_field.Goals as goal

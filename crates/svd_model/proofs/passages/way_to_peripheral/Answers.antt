@@ -1,5 +1,5 @@
 -- A peripheral is sought itself, or leads to what is sought below it.
-use Rattle.std.proofs.Common.{◌≡◌, ◌++◌, ◌∷◌, [], sym, ◌∙◌, ap, Some, option_map, map}
+use Rattle.std.proofs.Common.{sym, ◌∙◌, ap, Some, map}
 use Rattle.svd_model.specs.Trees.{peripheral_under, item_under}
 use Rattle.svd_model.specs.Unbuilt.{first_way}
 use Rattle.svd_rows.specs.Forest.{siblings}

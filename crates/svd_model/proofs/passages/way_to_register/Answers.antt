@@ -1,5 +1,5 @@
 -- A register is sought itself, or leads to what is sought below it.
-use Rattle.std.proofs.Common.{◌≡◌, ◌++◌, ◌∷◌, [], sym, ◌∙◌, ap, Some, option_map}
+use Rattle.std.proofs.Common.{sym, ◌∙◌, ap, Some}
 use Rattle.svd_model.specs.Unbuilt.{register_under}
 use Rattle.svd_model.proofs.SoughtKeys.{register-here, way_to-here, way_to-below}
 use Rattle.svd_model.proofs.passages.way_to_register.Goals as goal

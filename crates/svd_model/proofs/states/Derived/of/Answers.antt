@@ -1,5 +1,5 @@
 -- Nothing is sought in the device, whose rows are those of the state.
-use Rattle.std.proofs.Common.{◌≡◌, sym, ◌∙◌, ap}
+use Rattle.std.proofs.Common.{sym, ◌∙◌, ap}
 use Rattle.svd_model.specs.Unbuilt.{first_source}
 use Rattle.svd_model.proofs.Served.{derived_device}
 use Rattle.svd_model.proofs.states.Derived.of.Goals as goal
