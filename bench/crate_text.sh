@@ -1,0 +1,73 @@
+#!/usr/bin/env bash
+# Times reading and printing crate texts of growing size beside `cat` of the same bytes.
+top="$(cd "$(dirname "$0")/.." && pwd)" || exit 2
+program="${FRAG_ECHO:-$top/crates/frag_echo/out/frag_echo}"
+[ -x "$program" ] || { echo "build the program first: cd $top/crates/frag_echo && rt run < stdin" >&2; exit 2; }
+for tool in /usr/bin/time python3; do
+    command -v "$tool" >/dev/null || { echo "$tool is missing" >&2; exit 2; }
+done
+folder="$(mktemp -d)" || exit 2
+trap 'rm -rf "$folder"' EXIT
+
+# best SECONDS, and KIB of the largest run, of five runs of a command on the crate text
+best() {
+    for _ in 1 2 3 4 5; do
+        /usr/bin/time -f '%e %M' -o "$folder/time" "$@" <"$folder/crate.rs" >"$folder/out" || { echo "failed: $*" >&2; exit 1; }
+        cat "$folder/time"
+    done | sort -n | awk 'NR == 1 { best = $1 } { if ($2 > most) most = $2 } END { print best, most }'
+}
+
+printf '%5s %9s %9s %9s %11s %12s\n' MB 'read s' 'both s' 'cat s' 'both/cat' 'memory/text'
+for megabytes in 10 40 80; do
+    python3 - "$megabytes" "$folder/crate.rs" <<'PYTHON'
+import sys
+size, name = int(sys.argv[1]) * 1000 * 1000, sys.argv[2]
+WRITERS = ["BitWriter", "BitWriter1C", "BitWriter0S"]
+
+def register(n):
+    head = [f"    pub mod r{n} {{", "        use crate::generic::*;", "        pub struct Spec;",
+            "        impl RegisterSpec for Spec { type Ux = u32; }", "        impl Readable for Spec {}",
+            "        impl Writable for Spec { const ZERO_TO_MODIFY: u32 = 0x0; const ONE_TO_MODIFY: u32 = 0x12; }",
+            f"        impl Resettable for Spec {{ const RESET_VALUE: u32 = {hex(n)}; }}"]
+    head += [f"        pub struct F{f}_F;" for f in range(6)]
+    reads, writes = ["        impl R<Spec> {"], ["        impl W<Spec> {"]
+    for f in range(6):
+        if f % 2:
+            reads.append(f"            pub fn f{f}(&self) -> FieldReader<F{f}_F, u8> {{ FieldReader::new(((self.bits >> {4 * f}) & 0x7) as u8) }}")
+            writes.append(f"            pub fn f{f}(&mut self) -> FieldWriter<'_, Spec, F{f}_F, u8, 3> {{ FieldWriter::new(self, {4 * f}) }}")
+        else:
+            kind = WRITERS[f // 2]
+            reads.append(f"            pub fn f{f}(&self) -> BitReader<F{f}_F> {{ BitReader::new(((self.bits >> {4 * f}) & 0x1) != 0x0) }}")
+            writes.append(f"            pub fn f{f}(&mut self) -> {kind}<'_, Spec, F{f}_F> {{ {kind}::new(self, {4 * f}) }}")
+    values = ["        impl BitReader<F0_F> {", "            pub fn is_off(&self) -> bool { self.bit() == false }", "            pub fn is_on(&self) -> bool { self.bit() == true }", "        }",
+              "        impl<'a> BitWriter<'a, Spec, F0_F> {", "            pub fn off(self) -> &'a mut W<Spec> { self.bit(false) }", "            pub fn on(self) -> &'a mut W<Spec> { self.bit(true) }", "        }"]
+    return head + reads + ["        }"] + writes + ["        }"] + values + ["    }"]
+
+def block(n):
+    lines = ["", f"pub mod p{n} {{", "    use crate::generic::*;", "    #[repr(C)]", "    pub struct RegisterBlock {"]
+    lines += [f"        r{r}: Reg<r{r}::Spec>," for r in range(32)]
+    lines += ["    }", "    impl RegisterBlock {"]
+    lines += [f"        pub fn r{r}(&self) -> &Reg<r{r}::Spec> {{ &self.r{r} }}" for r in range(32)]
+    lines.append("    }")
+    for r in range(32):
+        lines += register(r)
+    return "\n".join(lines + ["}", ""])
+
+each = len(block(0))
+count = max(1, size // each)
+with open(name, "w") as out:
+    out.write("use crate::generic::*;\n\npub struct Peripherals {\n")
+    for n in range(count):
+        out.write(f"    pub P{n}: Periph<p{n}::RegisterBlock, {hex(0x40000000 + 0x400 * n)}>,\n")
+    out.write("}\n")
+    for n in range(count):
+        out.write(block(n))
+PYTHON
+    read -r read_time _ < <(best "$program" parse)
+    read -r both_time memory < <(best "$program")
+    cmp -s "$folder/crate.rs" "$folder/out" || { echo "printed otherwise" >&2; exit 1; }
+    read -r cat_time _ < <(best cat)
+    bytes="$(stat -c %s "$folder/crate.rs")"
+    awk -v m="$megabytes" -v r="$read_time" -v p="$both_time" -v c="$cat_time" -v k="$memory" -v b="$bytes" \
+        'BEGIN { printf "%5d %9.2f %9.2f %9.2f %11.1f %12.1f\n", m, r, p, c, (c > 0 ? p / c : 0), k * 1024 / b }'
+done
