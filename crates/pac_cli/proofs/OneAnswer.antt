@@ -1,11 +1,11 @@
 -- The words and the files decide one answer at most, so the one that comes is that one.
-use Rattle.std.proofs.Common.{ℕ, ◌≡◌, ◌⊎◌, ◌≤◌, ◌<◌, List, [], Option, Some, None, IfSome, length, refl, sym, ap, ◌∙◌, subst, inl, inr, arith}
+use Rattle.std.proofs.Common.{ℕ, ◌≡◌, ◌⊎◌, List, Option, Some, None, IfSome, refl, sym, ap, ◌∙◌, subst, inl, inr, arith}
 use Rattle.pac_io.specs.Rose.{Rose}
 use Rattle.svd_reader.specs.Described.{Answer as Reading, HasAnswer}
-use Rattle.pac_cli.specs.Answers.{Answer, refused, prints, FileMap, IsAnswer, AnswersCommand, AnswersFile, AnswersListing, ListsAs, PassesLongest, longest, listed}
+use Rattle.pac_cli.specs.Answers.{Answer, refused, prints, FileMap, IsAnswer, AnswersCommand, AnswersFile, AnswersListing, listed}
 use Rattle.pac_cli.specs.Resolving.{Cause, no_command, Resolution, ComeTo, resolution_of}
 use Rattle.pac_cli.specs.Showing.{Shows}
-use Rattle.pac_cli.specs.Causes.{World, Finishes, RunsOutOfMemory, RefusesWords, FailsToRead, FailsToWrite, RefusesInput, Stands, StandsAt, Comes, IsComplete}
+use Rattle.pac_cli.specs.Causes.{World, Stands, Comes, IsComplete}
 use Rattle.pac_cli.specs.Commands.{command_of}
 use Rattle.pac_cli.specs.declared.command.Command.{Command}
 use Rattle.pac_cli.specs.declared.command.Command.TheVariants.{Listing}

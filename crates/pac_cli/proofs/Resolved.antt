@@ -1,5 +1,5 @@
 -- From what each pass over a description leaves to what its bytes come to.
-use Rattle.std.proofs.Common.{ℕ, ◌≡◌, List, [], ◌∷◌, map, Option, Some, None, Result, Ok, Err, refl, sym, ap, ◌∙◌, subst, rules, inl, inr}
+use Rattle.std.proofs.Common.{ℕ, ◌≡◌, List, [], ◌∷◌, map, Option, Some, None, Result, Ok, Err, refl, ap, ◌∙◌, subst, inl, inr}
 use Rattle.dim_expand.specs.declared.fault.DimFault.{DimFault}
 use Rattle.dim_expand.specs.declared.fault.DimFault.TheVariants as dim
 use Rattle.dim_expand.specs.Faults.{first_fault, IsFirst as IsFirstDim}
@@ -8,15 +8,15 @@ use Rattle.overlap_check.specs.Told.{first_of, told_fault, IsFirst}
 use Rattle.overlap_check.specs.declared.fault.CheckFault.{CheckFault}
 use Rattle.overlap_check.specs.declared.fault.CheckFault.TheVariants as check
 use Rattle.pac_base.specs.declared.path.Step.{Step as NamedStep}
-use Rattle.svd_model.specs.Checking.{Fault, loose_faults}
+use Rattle.svd_model.specs.Checking.{Fault}
 use Rattle.svd_model.specs.Keys.{Key}
 use Rattle.svd_model.specs.Steps.{Step}
 use Rattle.svd_model.specs.Unbuilt.{first_source}
-use Rattle.svd_reader.specs.Described.{Answer as Reading, no_text, too_deep, at_fault, too_many, described, HasAnswer}
+use Rattle.svd_reader.specs.Described.{Answer as Reading, too_many, described, HasAnswer}
 use Rattle.svd_reader.specs.declared.fault.SvdFault.{SvdFault}
 use Rattle.svd_reader.specs.declared.fault.SvdFault.TheVariants as svd
 use Rattle.svd_rows.specs.Rows.{Row}
-use Rattle.pac_cli.specs.Resolving.{Cause, not_described, unbuilt, not_unfolded, fails_check, Resolution, stopped, checked, by_check, by_unfolding, by_source, resolution_of, ComeTo}
+use Rattle.pac_cli.specs.Resolving.{Cause, not_described, unbuilt, not_unfolded, fails_check, Resolution, stopped, checked, by_unfolding, by_source, resolution_of, ComeTo}
 use Rattle.pac_cli.specs.Showing.{TellsReading, ShowsRead, ShowsLimit}
 use Rattle.pac_cli.specs.Stages.{DescribeFault, PassFault, UnfoldFault, UnfoldDim, UnfoldLimit, unfolding_fault, CheckedFault, Checks, ResolveFault, Resolves}
 use Rattle.pac_cli.specs.declared.fault.LimitFault.{LimitFault}

@@ -1,5 +1,5 @@
 -- From what each stage of a command leaves to what stands after the call.
-use Rattle.std.proofs.Common.{ℕ, ◌≡◌, ◌⊎◌, ◌<◌, List, [], ◌∷◌, ◌++◌, Option, Some, None, IfSome, IsSomeAnd, IsSome, Result, Ok, Err, length, Bool, true, false, refl, sym, ap, ◌∙◌, subst, inl, inr}
+use Rattle.std.proofs.Common.{ℕ, ◌≡◌, ◌⊎◌, ◌<◌, List, [], ◌∷◌, ◌++◌, Option, Some, None, IfSome, IsSomeAnd, IsSome, Result, Ok, Err, length, true, false, refl, sym, ap, ◌∙◌, subst, inl, inr}
 use Rattle.std.proofs.lemmas.List.{append-nil}
 use Rattle.std.specs.Result.{result_err}
 use Rattle.reg_table.specs.Listing.{listing}
@@ -9,8 +9,8 @@ use Rattle.svd_model.specs.Steps.{Step}
 use Rattle.svd_rows.specs.Rows.{Row}
 use Rattle.pac_io.specs.Asking.{and_asked}
 use Rattle.pac_io.proofs.WrittenUpTo.{none_written}
-use Rattle.pac_cli.specs.Answers.{Answer, refused, prints, FileMap, IsAnswer, AnswersCommand, AnswersFile, AnswersListing, ListsAs, PassesLongest, longest, listed}
-use Rattle.pac_cli.specs.Causes.{World, world, Asks, WritesNothing, WritesPart, Finishes, RunsOutOfMemory, FailsToRead, FailsToWrite, RefusesInput, Stands, StandsFor}
+use Rattle.pac_cli.specs.Answers.{Answer, refused, prints, FileMap, IsAnswer, AnswersCommand, AnswersFile, AnswersListing, longest, listed}
+use Rattle.pac_cli.specs.Causes.{World, world, Asks, RunsOutOfMemory, RefusesInput, Stands, StandsFor}
 use Rattle.pac_cli.specs.Commands.{command_of, files_of, CommandsFault}
 use Rattle.pac_cli.specs.Resolving.{Cause, file_too_long, stopped, checked, ComeTo}
 use Rattle.pac_cli.specs.Showing.{Shows}

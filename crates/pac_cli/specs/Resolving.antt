@@ -1,6 +1,6 @@
 -- What the bytes of a description come to: the first fault of its passes one after the other, reading, deriving, unfolding and checking, or
 -- the rows that they leave. This project's own order.
-use Rattle.std.specs.Prelude.{◌≡◌, ℕ, List, [], ◌∷◌, Option, Some, None}
+use Rattle.std.specs.Prelude.{◌≡◌, ℕ, List, Option, Some, None}
 use Rattle.pac_base.specs.declared.path.Step.{Step as NamedStep}
 use Rattle.dim_expand.specs.declared.fault.DimFault.{DimFault}
 use Rattle.dim_expand.specs.Faults.{first_fault}

@@ -1,5 +1,5 @@
 -- What each stage of a command answers: its value, or one of the faults that it can have.
-use Rattle.std.specs.Prelude.{ℕ, ◌≡◌, ◌⊎◌, ◌≤◌, ◌<◌, List, [], ◌∷◌, ◌++◌, Option, Some, None, IfSome, IsSomeAnd, Result, Ok, Err, length}
+use Rattle.std.specs.Prelude.{ℕ, ◌≡◌, ◌⊎◌, ◌≤◌, ◌<◌, List, [], Option, Some, None, IfSome, IsSomeAnd, Result, Ok, Err, length}
 use Rattle.std.specs.Io.KnownBytes.{Appends}
 use Rattle.pac_io.specs.Asking.{and_asked}
 use Rattle.pac_io.specs.Rose.{Rose}

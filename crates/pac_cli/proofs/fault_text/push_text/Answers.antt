@@ -1,4 +1,3 @@
-use Rattle.std.proofs.Common.{rules}
 use Rattle.pac_cli.specs.FaultTexts.{text_of}
 use Rattle.pac_cli.proofs.fault_text.push_text.Goals as goal
 

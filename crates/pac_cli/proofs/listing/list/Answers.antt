@@ -1,7 +1,7 @@
 use Rattle.std.proofs.Common.{List, ℕ, subst}
 use Rattle.std.proofs.lemmas.Result.{err_from_is_err_and}
 use Rattle.pac_cli.specs.Resolving.{checked, ComeTo}
-use Rattle.pac_cli.specs.Stages.{shelf, paper, HasRead, ResolveFault}
+use Rattle.pac_cli.specs.Stages.{shelf, paper, ResolveFault}
 use Rattle.pac_cli.proofs.Standing.{not_read, not_resolved, written}
 use Rattle.pac_cli.proofs.listing.list.Goals as goal
 

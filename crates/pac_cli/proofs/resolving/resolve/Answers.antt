@@ -1,4 +1,3 @@
-use Rattle.std.proofs.Common.{rules, ◌∙◌, subst}
 use Rattle.std.proofs.lemmas.Result.{err_from_is_err_and}
 use Rattle.pac_cli.proofs.Resolved.{not_read, not_derived, refused_at, resolved_at}
 use Rattle.pac_cli.proofs.resolving.resolve.Goals as goal
