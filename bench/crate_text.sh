@@ -69,5 +69,5 @@ PYTHON
     read -r cat_time _ < <(best cat)
     bytes="$(stat -c %s "$folder/crate.rs")"
     awk -v m="$megabytes" -v r="$read_time" -v p="$both_time" -v c="$cat_time" -v k="$memory" -v b="$bytes" \
-        'BEGIN { printf "%5d %9.2f %9.2f %9.2f %11.1f %12.1f\n", m, r, p, c, (c > 0 ? p / c : 0), k * 1024 / b }'
+        'BEGIN { printf "%5d %9.2f %9.2f %9.2f %11s %12.1f\n", m, r, p, c, (c > 0 ? sprintf("%.0f", p / c) : "-"), k * 1024 / b }'
 done
