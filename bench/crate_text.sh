@@ -1,21 +1,11 @@
 #!/usr/bin/env bash
 # Times reading and printing crate texts of growing size beside `cat` of the same bytes.
 top="$(cd "$(dirname "$0")/.." && pwd)" || exit 2
-program="${FRAG_ECHO:-$top/crates/frag_echo/out/frag_echo}"
+program="$top/crates/frag_echo/out/frag_echo"
 [ -x "$program" ] || { echo "build the program first: cd $top/crates/frag_echo && rt run < stdin" >&2; exit 2; }
-for tool in /usr/bin/time python3; do
-    command -v "$tool" >/dev/null || { echo "$tool is missing" >&2; exit 2; }
-done
-folder="$(mktemp -d)" || exit 2
-trap 'rm -rf "$folder"' EXIT
-
-# best SECONDS, and KIB of the largest run, of five runs of a command on the crate text
-best() {
-    for _ in 1 2 3 4 5; do
-        /usr/bin/time -f '%e %M' -o "$folder/time" "$@" <"$folder/crate.rs" >"$folder/out" || { echo "failed: $*" >&2; exit 1; }
-        cat "$folder/time"
-    done | sort -n | awk 'NR == 1 { best = $1 } { if ($2 > most) most = $2 } END { print best, most }'
-}
+. "$top/bench/timing.sh"
+needs python3
+input="$folder/crate.rs"
 
 printf '%5s %9s %9s %9s %11s %12s\n' MB 'read s' 'both s' 'cat s' 'both/cat' 'memory/text'
 for megabytes in 10 40 80; do

@@ -3,19 +3,8 @@
 top="$(cd "$(dirname "$0")/.." && pwd)" || exit 2
 program="$top/crates/pac_main/out/pac_main"
 [ -x "$program" ] || { echo "build the program first: $top/pac list $top/examples/one_register.svd" >&2; exit 2; }
-for tool in xmllint /usr/bin/time python3; do
-    command -v "$tool" >/dev/null || { echo "$tool is missing" >&2; exit 2; }
-done
-folder="$(mktemp -d)" || exit 2
-trap 'rm -rf "$folder"' EXIT
-
-# best SECONDS, and KIB of the largest run, of five runs of a command
-best() {
-    for _ in 1 2 3 4 5; do
-        /usr/bin/time -f '%e %M' -o "$folder/time" "$@" >/dev/null || { echo "failed: $*" >&2; exit 1; }
-        cat "$folder/time"
-    done | sort -n | awk 'NR == 1 { best = $1 } { if ($2 > most) most = $2 } END { print best, most }'
-}
+. "$top/bench/timing.sh"
+needs xmllint python3
 
 printf '%5s %9s %9s %6s %12s\n' MB 'pac s' 'xmllint s' ratio 'memory/file'
 for megabytes in 1 8 32; do
