@@ -13,8 +13,6 @@ mod passages;
 mod props;
 mod sibling;
 mod states;
-#[cfg(test)]
-mod tests;
 
 pub use copy::{copied_dim, copied_name, copied_path, copied_sets, copied_text};
 pub use counted::Counted;
