@@ -68,7 +68,11 @@ fn blocks_and_their_first_faults(rt: HostRuntime) -> Result<(), Fail> {
         assert_eq!(rt; answer(rt.alloc(), text.as_bytes())?, ("fits", 0), "{text}");
     }
     for (text, said, line) in REFUSED {
-        assert_eq!(rt; answer(rt.alloc(), text.as_bytes())?, (said, line), "{text}");
+        assert_eq!(rt;
+            answer(rt.alloc(), text.as_bytes())?,
+            (said, line),
+            "{text}"
+        );
     }
     assert_eq!(rt; answer(rt.alloc(), b"a: b\nc: \xFF\n")?, ("syntax", 2));
     Ok(())
@@ -99,7 +103,11 @@ const NESTED: [(usize, &str, &str, u32); 4] = [
 fn sixty_four_levels(rt: HostRuntime) -> Result<(), Fail> {
     for (levels, last, said, line) in NESTED {
         let text = nested(rt.alloc(), levels, last)?;
-        assert_eq!(rt; answer(rt.alloc(), text.as_slice())?, (said, line), "{levels}");
+        assert_eq!(rt;
+            answer(rt.alloc(), text.as_slice())?,
+            (said, line),
+            "{levels}"
+        );
     }
     Ok(())
 }
