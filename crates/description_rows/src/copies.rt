@@ -1,12 +1,10 @@
-use pac_base::{Name, Path, Step, Text};
+use pac_base::{Name, Path, Step};
 use std::test::Fail;
-use svd_model::{Dim, Values, copied_dim, copied_name, copied_path, copied_sets, copied_text};
+use svd_model::{Dim, Values, copied_dim, copied_name, copied_path, copied_sets};
 use svd_values::{DimIndex, dim_index};
 
 #[test]
 fn parts_of_an_element_are_copied(rt: HostRuntime) -> Result<(), Fail> {
-    let text = Text::new(rt.alloc(), b"Timers")?;
-    assert_eq!(rt; copied_text(rt.alloc(), &text)?.as_str(), "Timers");
     let name = Some(Name::new(rt.alloc(), b"CH")?);
     assert!(rt; copied_name(rt.alloc(), &name)? == name);
     let mut path = Path::new(rt.alloc());

@@ -10,7 +10,7 @@ use crate::tally::Tally;
 use indexmap::IndexMap;
 use pac_base::NoMemory;
 use std::alloc::Global;
-use svd_model::{Device, Peripheral, Sibling, copied_path, copied_text};
+use svd_model::{Device, Peripheral, Sibling, copied_path};
 
 /// A group of a peripheral.
 fn peripheral_group(
@@ -82,7 +82,7 @@ pub fn unfolded_device(alloc: Global, device: &Device) -> Result<Device, NoMemor
     ensures { IfOk result (λ made. device_tree made ≡ unfolded_tree capped (device_tree device.now)) }
 {
     Ok(Device {
-        name: copied_text(alloc, &device.name)?,
+        name: device.name.copy(alloc)?,
         props: device.props,
         peripherals: unfolded_peripherals(alloc, &device.peripherals)?,
     })
