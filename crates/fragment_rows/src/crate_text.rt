@@ -1,6 +1,6 @@
-use crate::{ParseFault, parse_crate};
+use frag_parse::{ParseFault, parse_crate};
 use frag_tree::print_crate;
-use pac_io::MemSink;
+use pac_io::{MemSink, SinkFault};
 use std::alloc::Global;
 use std::test::Fail;
 
@@ -40,19 +40,21 @@ pub mod t {
 }
 ";
 
-const BLOCK: &str =
-    "pub mod b { use crate::generic::*; #[repr(C)] pub struct RegisterBlock {} impl RegisterBlock {}";
+// Where each item of it begins, in bytes: a slot, a block, a struct field, an accessor, a register,
+// two markers, two readers and two writers.
+const PLACES: [usize; 11] = [53, 101, 194, 252, 310, 642, 667, 719, 819, 952, 1046];
 
 #[test]
 fn what_is_read_is_printed_as_it_was(rt: HostRuntime) -> Result<(), Fail> {
     let krate = parse_crate(rt.alloc(), EXAMPLE.as_bytes())?;
-    assert_eq!(rt;
-        krate.places.as_slice(),
-        [53, 101, 194, 252, 310, 642, 667, 719, 819, 952, 1046].as_slice()
-    );
+    assert_eq!(rt; krate.places.as_slice(), PLACES.as_slice());
     let mut sink = MemSink::new(rt.alloc());
     print_crate(rt.alloc(), &krate, &mut sink)?;
     assert_eq!(rt; sink.written(), EXAMPLE.as_bytes());
+    let mut failing = MemSink::new(rt.alloc());
+    failing.fail(1)?;
+    let printed = print_crate(rt.alloc(), &krate, &mut failing);
+    assert!(rt; matches!(printed, Err(SinkFault::Failed)));
     Ok(())
 }
 
@@ -64,16 +66,29 @@ fn syntax_at(alloc: Global, text: &str) -> Option<usize> {
     }
 }
 
+// Texts, and the byte at which each stops being a crate.
+const WORDS: [(&str, Option<usize>); 3] = [
+    ("", Some(0)),
+    ("use crate::generic::*;", Some(22)),
+    // other white space, and a comment with a letter in it that is no ASCII
+    (
+        "use// \u{fc}\ncrate::generic::*;\tpub\r\nstruct Peripherals{}//",
+        None,
+    ),
+];
+
 #[test]
-fn other_words_are_refused_where_they_stand(rt: HostRuntime) -> Result<(), Fail> {
-    assert_eq!(rt; syntax_at(rt.alloc(), ""), Some(0));
-    assert_eq!(rt; syntax_at(rt.alloc(), "use crate::generic::*;"), Some(22));
+fn edited_text_refused(rt: HostRuntime) -> Result<(), Fail> {
+    for (text, at) in WORDS {
+        assert_eq!(rt; syntax_at(rt.alloc(), text), at, "{text}");
+    }
     let twice = format!(in rt.alloc(); "{EXAMPLE}{EXAMPLE}")?;
     assert_eq!(rt; syntax_at(rt.alloc(), twice.as_str()), Some(1142));
-    let spaced = "use// \u{fc}\ncrate::generic::*;\tpub\r\nstruct Peripherals{}//";
-    assert_eq!(rt; syntax_at(rt.alloc(), spaced), None);
     Ok(())
 }
+
+const BLOCK: &str =
+    "pub mod b { use crate::generic::*; #[repr(C)] pub struct RegisterBlock {} impl RegisterBlock {}";
 
 // A crate with so many block modules, one in another, of which the last `left` stay open.
 fn nested(alloc: Global, depth: usize, left: usize) -> Result<String, Fail> {
