@@ -47,7 +47,7 @@ build() {
     local line crate=''
     command -v rt >/dev/null || {
         say "$1, and the command rt, which proves and builds it, isn't there."
-        say "rt is bin/rt of the Rattle kit. Unpack the kit and put its folder bin into PATH, as in"
+        say "rt is bin/rt of the Rattle kit (rattle-kit-13b). Unpack the kit and put its folder bin into PATH, as in"
         say "    PATH=/opt/rattle/bin:\$PATH ./pac list examples/one_register.svd"
         exit 127
     }
@@ -57,6 +57,7 @@ build() {
     trap 'exit 143' TERM
     folder="$(mktemp -d)" && touch "$folder/began" "$folder/said" || exit 70
     say "$1: proving and building it, ${#below[@]} crates; from nothing about 25 minutes on four processors"
+    say "after a quick pass over all of them comes a line for each as it is proved"
     exec 3< <(cd "$top/crates/pac_main" && exec rt run -- list data/one_register.svd 2>&1 </dev/null)
     builder=$!
     while IFS= read -r line <&3; do
