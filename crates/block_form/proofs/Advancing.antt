@@ -1,5 +1,5 @@
 -- A struct with one child more.
-use Rattle.std.proofs.Common.{◌≡◌, ℕ, ◌+◌, ◌<◌, ◌≤◌, max, Bool, true, false, not, ◌||◌, List, [], ◌∷◌, ◌++◌, map, length, get_or, drop, drop-cons, Bor, refl, sym, ap, ap₂, ◌∙◌, subst, append_assoc, append-nil, add-one, arith, bytes_eq, if◌then◌else◌, nat_lt}
+use Rattle.std.proofs.Common.{◌≡◌, ℕ, ◌+◌, ◌<◌, ◌≤◌, max, Bool, true, false, ◌||◌, List, [], ◌∷◌, ◌++◌, map, length, get_or, drop, drop-cons, Bor, refl, sym, ap, ap₂, ◌∙◌, subst, append_assoc, append-nil, add-one, arith, bytes_eq, if◌then◌else◌, nat_lt}
 use Rattle.std.proofs.lemmas.List.{drop_all, map-append}
 use Rattle.std.proofs.lemmas.List.Folds.{list_any-append}
 use Rattle.std.proofs.lemmas.Slice.Eq.{bytes_eq-Decides}

@@ -1,23 +1,22 @@
 -- What a block takes in memory.
-use Rattle.std.proofs.Common.{◌≡◌, ℕ, zero, suc, ◌+◌, ◌-◌, ◌*◌, ◌%◌, ◌<◌, ◌≤◌, ◌^◌, ◌⊎◌, inl, inr, max, Bool, true, false, cond, ◌||◌, ◌==◌, List, [], ◌∷◌, ◌++◌, map, fold, Option, Some, None, option_map, refl, sym, ap, ap₂, ◌∙◌, arith, bytes_eq, if◌then◌else◌, nat_lt, nat_le, subst}
+use Rattle.std.proofs.Common.{◌≡◌, ℕ, zero, suc, ◌+◌, ◌-◌, ◌*◌, ◌%◌, ◌<◌, ◌≤◌, ◌^◌, inl, inr, max, Bool, true, false, cond, ◌||◌, ◌==◌, List, [], ◌∷◌, ◌++◌, map, fold, Option, Some, None, option_map, refl, sym, ap, ◌∙◌, arith, bytes_eq, if◌then◌else◌, nat_lt, nat_le, subst}
 use Rattle.std.specs.Int.{next_multiple_of}
-use Rattle.std.specs.List.{AllByRecursion, list_any}
+use Rattle.std.specs.List.{AllByRecursion}
 use Rattle.std.proofs.lemmas.Bool.{false≢true}
 use Rattle.std.proofs.lemmas.Bool.Decides.{nat_tests}
 use Rattle.std.proofs.lemmas.Slice.Eq.{bytes_eq-Decides}
 use Rattle.frag_tree.specs.declared.block.Element.{Element}
-use Rattle.frag_tree.specs.declared.block.Element.TheVariants as element
 use Rattle.frag_tree.specs.declared.block.StructField.{StructField}
 use Rattle.frag_sem.specs.CallPlaces.{admits}
-use Rattle.frag_sem.specs.Layout.{Extent, Extents, align_of, block_extent, end_behind}
+use Rattle.frag_sem.specs.Layout.{Extent, Extents, align_of, end_behind}
 use Rattle.frag_sem.specs.Modules.{beside, same_element}
 use Rattle.block_form.specs.declared.child.Array.{Array}
 use Rattle.block_form.specs.declared.child.Child.{Child}
 use Rattle.block_form.specs.declared.child.ChildKind.{ChildKind}
 use Rattle.block_form.specs.declared.child.ChildKind.TheVariants as kind
-use Rattle.block_form.specs.Children.{FitsFrom, IsAlignment, IsSound, array_fits, bytes_held, child_count, child_end, child_extent, child_place, element_named, element_of, field_of, has_members, place_in}
+use Rattle.block_form.specs.Children.{FitsFrom, IsAlignment, IsSound, array_fits, bytes_held, child_end, child_extent, element_named, element_of, field_of, has_members, place_in}
 use Rattle.block_form.specs.Fields.{end_from, fields_from, greatest_align}
-use Rattle.block_form.specs.Forms.{align_among, is_named, names_of, size_among, taken_of}
+use Rattle.block_form.specs.Forms.{align_among, is_named, taken_of}
 use Rattle.block_form.specs.Gaps.{gap_field}
 use Rattle.block_form.specs.Laws.{AreKnown, BlockFits, EachIsKnown, ExtentFits, ExtentIs, FitIsSound}
 use Rattle.block_form.proofs.Names.{Owns, apart, owns}

@@ -1,8 +1,6 @@
 -- Children have one form.
-use Rattle.std.proofs.Common.{List, refl, ap, ◌∙◌}
+use Rattle.std.proofs.Common.{refl, ap, ◌∙◌}
 use Rattle.std.specs.Int.{next_multiple_of}
-use Rattle.block_form.specs.declared.child.Child.{Child}
-use Rattle.block_form.specs.declared.form.Form.{Form}
 use Rattle.block_form.specs.Forms.{accessors_for}
 use Rattle.block_form.specs.Fields.{end_from, fields_from, greatest_align, taken_from}
 use Rattle.block_form.specs.Laws.{FormIs, OneForm}

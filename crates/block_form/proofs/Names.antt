@@ -1,9 +1,8 @@
 -- The names of children and of fields.
-use Rattle.std.proofs.Common.{◌≡◌, ℕ, suc, ◌+◌, ◌-◌, ◌<◌, ◌≤◌, ◌^◌, Bool, true, false, cond, not, ◌&&◌, ◌||◌, List, [], ◌∷◌, ◌++◌, map, find, Some, None, length, refl, sym, ap, ◌∙◌, arith, bytes_eq, if◌then◌else◌, nat_le, nat_lt, subst}
+use Rattle.std.proofs.Common.{◌≡◌, ℕ, suc, ◌+◌, ◌-◌, ◌<◌, ◌≤◌, ◌^◌, Bool, true, false, cond, not, ◌||◌, List, [], ◌∷◌, ◌++◌, map, find, Some, None, length, refl, sym, ap, ◌∙◌, arith, bytes_eq, if◌then◌else◌, nat_le, nat_lt, subst}
 use Rattle.std.specs.Bool.{⊤}
 use Rattle.std.specs.List.{AllByRecursion, list_any}
-use Rattle.std.proofs.lemmas.Bool.{or_parts, and_from, not-true, false≢true}
-use Rattle.std.proofs.lemmas.Slice.Eq.{bytes_eq-Decides}
+use Rattle.std.proofs.lemmas.Bool.{or_parts, not-true, false≢true}
 use Rattle.frag_tree.specs.declared.access.Access.{Access}
 use Rattle.frag_tree.specs.declared.block.StructField.{StructField}
 use Rattle.frag_sem.proofs.Lists.{both_true, turned}
@@ -11,8 +10,8 @@ use Rattle.frag_sem.specs.Modules.{are_distinct}
 use Rattle.block_form.specs.declared.child.Child.{Child}
 use Rattle.block_form.specs.Children.{child_end, field_of}
 use Rattle.block_form.specs.Fields.{becomes_field, fields_from, taken_from}
-use Rattle.block_form.specs.Forms.{accessors_for, accessors_of, is_named, names_of, taken_of}
-use Rattle.block_form.specs.Gaps.{IsNoGap, NoGaps, gap_field, gap_name, gaps_behind}
+use Rattle.block_form.specs.Forms.{accessors_for, is_named, names_of, taken_of}
+use Rattle.block_form.specs.Gaps.{IsNoGap, NoGaps, gap_field, gap_name}
 use Rattle.block_form.specs.Laws.{HaveNames, NamesDiffer}
 use Rattle.block_form.specs.Order.{by_offset, ordered_by, put_in}
 use Rattle.block_form.proofs.GapNames.{gaps_differ}
@@ -187,8 +186,8 @@ accessor_names taken (child ∷ others) = ap (λ l. child.name ∷ l) (accessor_
 pub names_differ : NamesDiffer
 names_differ children within distinct no_gaps = (
   fields_differ 0 0 (taken_of children)
-  (let long = length_ordered children in let few = length_taken 0 (by_offset children) in omega arith)
-  (apart_taken 0 (by_offset children) (apart_ordered children (apart children distinct)))
-  (taken_have (λ child. IsNoGap child.name) children no_gaps),
+      (let long = length_ordered children in let few = length_taken 0 (by_offset children) in omega arith)
+      (apart_taken 0 (by_offset children) (apart_ordered children (apart children distinct)))
+      (taken_have (λ child. IsNoGap child.name) children no_gaps),
   ap (are_distinct bytes_eq) (accessor_names (taken_of children) children) ∙ distinct,
 )

@@ -1,21 +1,19 @@
 -- The rules of typing that speak of one block.
-use Rattle.std.proofs.Common.{◌≡◌, ℕ, ◌+◌, ◌-◌, Bool, true, false, cond, not, ◌&&◌, List, [], ◌∷◌, ◌++◌, map, Option, Some, None, option_map, refl, sym, ap, ◌∙◌, if◌then◌else◌, nat_lt, bytes_eq}
+use Rattle.std.proofs.Common.{◌≡◌, ℕ, ◌+◌, ◌-◌, Bool, true, false, cond, List, [], ◌∷◌, ◌++◌, Option, Some, None, option_map, refl, ap, ◌∙◌, if◌then◌else◌, nat_lt, bytes_eq}
 use Rattle.std.specs.Option.{is_some}
 use Rattle.std.specs.List.{AllByRecursion, list_all}
 use Rattle.std.proofs.lemmas.Bool.{and_from}
-use Rattle.frag_tree.specs.declared.block.FieldType.{FieldType}
 use Rattle.frag_tree.specs.declared.block.StructField.{StructField}
 use Rattle.frag_tree.specs.declared.access.Access.{Access}
-use Rattle.frag_tree.specs.Trees.{Modules}
 use Rattle.frag_sem.specs.CallPlaces.{field_named}
 use Rattle.frag_sem.specs.CrateTyping.{body_has_members, body_types, holds_such, is_array, is_module, is_one, names_field, names_module, type_has_members}
 use Rattle.block_form.specs.declared.child.Array.{Array}
 use Rattle.block_form.specs.declared.child.Child.{Child}
-use Rattle.block_form.specs.Children.{IsSound, child_count, child_end, element_of, field_of, has_members, held}
+use Rattle.block_form.specs.Children.{IsSound, child_end, element_of, field_of, has_members, held}
 use Rattle.block_form.specs.Fields.{fields_from}
 use Rattle.block_form.specs.Forms.{access_of, accessors_for, body_of, fields_of, is_named, taken_of}
 use Rattle.block_form.specs.Gaps.{NoGaps, gap_field}
-use Rattle.block_form.specs.Laws.{BodiesFit, CountsAreSome, HaveNames, PathsLead}
+use Rattle.block_form.specs.Laws.{BodiesFit, CountsAreSome, PathsLead}
 use Rattle.block_form.proofs.Extents.{same_self}
 use Rattle.block_form.proofs.Names.{Owns, apart, find_own, owns}
 use Rattle.block_form.proofs.Standing.{field_found}
@@ -45,7 +43,7 @@ accessors_pass test taken (child ∷ others) all =
 pub paths_lead : PathsLead
 paths_lead modules children all = (
   fields_pass (λ field. names_module modules field.holds) 0 0 (taken_of children) (λ number bytes. refl)
-  (taken_have (λ child. names_module modules (field_of child).holds ≡ true) children (all_are (λ child. is_module modules (element_of child) ≡ true) (λ child. names_module modules (field_of child).holds ≡ true) children (λ child is. names child.array child is) all)),
+      (taken_have (λ child. names_module modules (field_of child).holds ≡ true) children (all_are (λ child. is_module modules (element_of child) ≡ true) (λ child. names_module modules (field_of child).holds ≡ true) children (λ child is. names child.array child is) all)),
   accessors_pass (λ access. is_module modules access.element) (taken_of children) children all,
 )
   where
@@ -58,9 +56,9 @@ paths_lead modules children all = (
 pub counts_are_some : CountsAreSome
 counts_are_some children sound = (
   fields_pass (λ field. type_has_members field.holds) 0 0 (taken_of children) (λ number bytes. refl)
-  (taken_have (λ child. type_has_members (field_of child).holds ≡ true) children (all_are IsSound (λ child. type_has_members (field_of child).holds ≡ true) children (λ child sound. holds child child.array sound.some) sound)),
+      (taken_have (λ child. type_has_members (field_of child).holds ≡ true) children (all_are IsSound (λ child. type_has_members (field_of child).holds ≡ true) children (λ child sound. holds child child.array sound.some) sound)),
   accessors_pass (λ access. body_has_members access.body) (taken_of children) children
-  (all_are IsSound (λ child. body_has_members (access_of (is_named child.name (taken_of children)) child).body ≡ true) children (λ child sound. bodies child (is_named child.name (taken_of children)) child.array sound.some) sound),
+      (all_are IsSound (λ child. body_has_members (access_of (is_named child.name (taken_of children)) child).body ≡ true) children (λ child sound. bodies child (is_named child.name (taken_of children)) child.array sound.some) sound),
 )
   where
     holds : (child : Child) (array : Option Array) → has_members (option_map (λ (array : Array). array.count) array) ≡ true → type_has_members (held (element_of child) array) ≡ true

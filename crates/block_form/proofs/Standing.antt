@@ -1,5 +1,5 @@
 -- Where the children of a block stand, by the layout of its struct.
-use Rattle.std.proofs.Common.{◌≡◌, ℕ, ◌+◌, ◌-◌, ◌*◌, ◌%◌, ◌≤◌, Bool, true, false, cond, ◌||◌, ◌==◌, List, [], ◌∷◌, ◌++◌, map, find, Option, Some, None, option_map, option_and_then, unwrap_or, refl, sym, ap, ap₂, ◌∙◌, arith, bytes_eq, if◌then◌else◌, nat_lt, subst}
+use Rattle.std.proofs.Common.{◌≡◌, ℕ, ◌+◌, ◌-◌, ◌*◌, ◌%◌, ◌≤◌, Bool, true, false, cond, ◌||◌, ◌==◌, List, [], ◌∷◌, ◌++◌, find, Option, Some, None, option_map, option_and_then, unwrap_or, refl, sym, ap, ap₂, ◌∙◌, arith, bytes_eq, if◌then◌else◌, nat_lt}
 use Rattle.std.specs.Int.{next_multiple_of}
 use Rattle.std.specs.Option.{is_some}
 use Rattle.std.specs.List.{AllByRecursion}
@@ -17,10 +17,10 @@ use Rattle.block_form.specs.declared.child.Child.{Child}
 use Rattle.block_form.specs.Children.{array_fits, bytes_held, child_end, child_extent, child_place, element_of, field_of, held, place_in}
 use Rattle.block_form.specs.Fields.{fields_from}
 use Rattle.block_form.specs.Forms.{access_of, body_of, fields_of, is_named, taken_of}
-use Rattle.block_form.specs.Gaps.{IsNoGap, NoGaps, gap_before, gap_field, gaps_behind}
+use Rattle.block_form.specs.Gaps.{IsNoGap, NoGaps, gap_field}
 use Rattle.block_form.specs.Laws.{AccessorsLead, AreKnown, LeadsTo}
 use Rattle.block_form.proofs.Names.{Owns, all_found, apart, find_own, owns}
-use Rattle.block_form.proofs.Taking.{AreFields, Becomes, all_steps, are_fields, equal, taken_have}
+use Rattle.block_form.proofs.Taking.{AreFields, all_steps, are_fields, equal, taken_have}
 
 -- ---- one child in its place
 

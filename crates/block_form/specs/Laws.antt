@@ -1,20 +1,17 @@
 -- What the laws of this crate say, each as one statement.
-use Rattle.std.specs.Prelude.{ℕ, ◌≡◌, ◌+◌, ◌%◌, ◌≤◌, ◌<◌, ◌^◌, Bool, true, false, ◌&&◌, List, map, length, Option, Some}
+use Rattle.std.specs.Prelude.{ℕ, ◌≡◌, ◌+◌, ◌%◌, ◌≤◌, ◌<◌, ◌^◌, true, List, map, length, Option, Some}
 use Rattle.std.specs.List.{AllByRecursion, list_all}
 use Rattle.frag_tree.specs.declared.access.Access.{Access}
-use Rattle.frag_tree.specs.declared.block.StructField.{StructField}
 use Rattle.frag_tree.specs.Trees.{BlockHead, BlockTree, Modules}
-use Rattle.frag_tree.specs.Validity.{valid_access, valid_field}
 use Rattle.frag_sem.specs.CallPlaces.{admits, count_of, offset_of}
 use Rattle.frag_sem.specs.CrateTyping.{body_has_members, body_types, is_module, names_field, names_module, type_has_members}
-use Rattle.frag_sem.specs.Layout.{Extent, Extents, block_extent, extents}
+use Rattle.frag_sem.specs.Layout.{Extents, block_extent, extents}
 use Rattle.frag_sem.specs.Modules.{are_distinct_names, beside}
 use Rattle.block_form.specs.declared.child.Child.{Child}
 use Rattle.block_form.specs.declared.form.Form.{Form}
 use Rattle.block_form.specs.Children.{FitsFrom, IsAlignment, IsSound, child_count, child_extent, child_place, element_of}
 use Rattle.block_form.specs.Forms.{IsFormOf, access_of, accessors_of, align_among, fields_of, form_of, is_named, names_of, size_among, taken_of}
 use Rattle.block_form.specs.Gaps.{NoGaps}
-use Rattle.block_form.specs.Order.{IsByOffset, by_offset}
 
 -- ---- premises
 

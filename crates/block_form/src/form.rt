@@ -1,4 +1,4 @@
-ghost use Rattle.std.specs.Prelude.{◌≡◌, ◌≤◌, ◌^◌, IfOk};
+ghost use Rattle.std.specs.Prelude.{◌≡◌, ◌<◌, ◌≤◌, ◌^◌, IfOk};
 ghost use Rattle.std.specs.Int.{next_multiple_of};
 ghost use Rattle.std.specs.List.{AllByRecursion};
 ghost use Rattle.block_form.specs.Children.{IsAlignment, IsSound};
@@ -51,11 +51,18 @@ fn numbers(child: &Child)
     ensures { IsNumbered child.now }
 {
     let _name = child.name.bytes();
-    let _offset = child.offset;
+    number(child.offset);
     if let Some(array) = child.array {
-        let _count = array.count;
-        let _stride = array.stride;
+        number(array.count);
+        number(array.stride);
     }
+}
+
+// What its type says of a number.
+fn number(number: u64)
+    ensures { number < 2 ^ 64 }
+{
+    let _ = number;
 }
 
 /// The next multiple of the alignment.

@@ -1,12 +1,10 @@
-use Rattle.std.proofs.Common.{ℕ, ◌≡◌, ◌∙◌, ◌≤◌, ◌^◌, ◌∷◌, ◌++◌, ◌+◌, [], List, sym, ap, ap₂, subst, take, drop, take_all}
+use Rattle.std.proofs.Common.{ℕ, ◌∙◌, ◌≤◌, ◌^◌, ◌∷◌, ◌++◌, [], List, sym, ap, ap₂, subst, take_all}
 use Rattle.std.proofs.lemmas.List.{map_more, drop_all}
-use Rattle.std.specs.Int.{next_multiple_of}
 use Rattle.std.specs.List.{AllByRecursion}
 use Rattle.frag_tree.specs.declared.access.Access.{Access}
 use Rattle.block_form.specs.declared.child.Child.{Child}
-use Rattle.block_form.specs.declared.form.Form.{Form}
 use Rattle.block_form.specs.Children.{IsAlignment}
-use Rattle.block_form.specs.Forms.{access_of, accessors_for, form_of, is_named, taken_of}
+use Rattle.block_form.specs.Forms.{access_of, accessors_for, is_named, taken_of}
 use Rattle.block_form.specs.Numbers.{IsNumbered, IsValid}
 use Rattle.block_form.proofs.Extents.{align_fits, end_fits}
 use Rattle.block_form.proofs.Valid.{form_valid, formed, one_more}

@@ -1,4 +1,4 @@
-use Rattle.std.proofs.Common.{◌≡◌, drop, map, take}
+use Rattle.std.proofs.Common.{◌≡◌, drop, take}
 use Rattle.std.specs.List.{AllByRecursion}
 use Rattle.block_form.specs.Forms.{accessors_for, taken_of}
 use Rattle.block_form.specs.Numbers.{IsNumbered}

@@ -1,8 +1,7 @@
-use Rattle.std.proofs.Common.{◌∙◌, ◌++◌, ◌+◌, ◌||◌, [], map, drop, sym, ap, refl, subst, bytes_eq, arith}
-use Rattle.std.specs.List.{AllByRecursion, list_any}
+use Rattle.std.proofs.Common.{◌∙◌, ◌+◌, map, drop, sym, ap, subst, arith}
+use Rattle.std.specs.List.{AllByRecursion}
 use Rattle.block_form.specs.Children.{IsSound}
-use Rattle.block_form.specs.Fields.{fields_from, taken_from}
-use Rattle.block_form.specs.Forms.{is_named}
+use Rattle.block_form.specs.Fields.{taken_from}
 use Rattle.block_form.specs.Placings.{IsPart, IsWhole}
 use Rattle.block_form.proofs.Advancing.{advance, few_more, first_part, from_here, none_left, whole}
 use Rattle.block_form.proofs.Ordering.{all_ordered}

@@ -2,7 +2,6 @@ use Rattle.std.proofs.Common.{◌∙◌, ◌++◌, ◌∷◌, ◌||◌, [], max,
 use Rattle.std.specs.List.{list_any}
 use Rattle.block_form.specs.Children.{field_of}
 use Rattle.block_form.specs.Gaps.{gap_before}
-use Rattle.block_form.specs.Placings.{has_name}
 use Rattle.block_form.proofs.Advancing.{more_names}
 use Rattle.block_form.proofs.placing.Placing.put.Goals as goal
 
