@@ -1,6 +1,7 @@
 use crate::vendor::VENDOR;
 use dim_expand::unfold;
 use overlap_check::{Policy, check};
+use pac_base::Back;
 use pac_io::MemSink;
 use reg_table::{list_text, table};
 use std::alloc::Global;
@@ -23,7 +24,8 @@ fn a_vendors_file_is_read_and_copied(rt: HostRuntime) -> Result<(), Fail> {
     let Err(back) = Derived::of(rt.alloc(), Patched::of(copy)) else {
         return Err(Fail::from("a peripheral that is derived"));
     };
-    let UnbuiltFault::Unbuilt { path } = back.fault else {
+    let Back { state: _, fault } = back;
+    let UnbuiltFault::Unbuilt { path } = fault else {
         return Err(Fail::from("out of memory"));
     };
     assert!(rt;
