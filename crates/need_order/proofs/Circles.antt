@@ -1,5 +1,5 @@
 -- A circle of needs has an element with a base.
-use Rattle.std.proofs.Common.{◌≡◌, ◌⊎◌, inl, inr, ℕ, ◌<◌, ◌≤◌, Bool, true, false, List, [], ◌∷◌, ◌++◌, length, refl, sym, ap, ◌∙◌, subst, arith, lt_trans, lt_irrefl}
+use Rattle.std.proofs.Common.{◌≡◌, ◌⊎◌, inl, inr, ℕ, ◌<◌, true, List, [], ◌∷◌, ◌++◌, length, refl, subst, lt_trans, lt_irrefl}
 use Rattle.std.proofs.lemmas.Bool.{cases_Bool}
 use Rattle.need_order.specs.declared.element.Element.{Element}
 use Rattle.need_order.specs.Needs.{among, needs, is_based, Leads, IsPath, IsWithin, HasCircle, HasNoneBelow}

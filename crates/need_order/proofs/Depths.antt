@@ -5,7 +5,7 @@ use Rattle.std.proofs.lemmas.Bool.{eqb-true, or_cases, true≢false}
 use Rattle.need_order.specs.Children.{is_deep}
 use Rattle.need_order.specs.Levels.{by_levels, IsMadeOfNeeds}
 use Rattle.need_order.specs.Needs.{among}
-use Rattle.need_order.proofs.Sets.{or_none}
+use Rattle.need_order.proofs.Numbers.{or_none}
 
 -- none of these passes the test
 pub none_passes : (test : ℕ → Bool) (ds : List ℕ) → list_any test ds ≡ false → (d : ℕ) → among d ds ≡ true → test d ≡ false

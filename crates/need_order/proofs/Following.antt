@@ -1,12 +1,11 @@
 -- An order behind needs, step by step and as a whole.
-use Rattle.std.proofs.Common.{◌≡◌, ◌↔◌, ◌⊎◌, inl, inr, ℕ, ◌<◌, ◌≤◌, Bool, true, false, nat_eq, List, [], ◌∷◌, ◌++◌, length, refl, sym, ap, ◌∙◌, subst, arith, append_assoc, append-nil}
+use Rattle.std.proofs.Common.{◌≡◌, inl, inr, ℕ, ◌≤◌, true, false, nat_eq, List, [], ◌∷◌, ◌++◌, length, refl, sym, ap, ◌∙◌, subst, append_assoc, append-nil}
 use Rattle.std.specs.List.{IsDistinct, AllByRecursion}
 use Rattle.std.proofs.lemmas.Bool.{eqb-true, eq-eqb, or_cases, true≢false}
 use Rattle.std.proofs.lemmas.Map.Steps.{length-le_from_distinct_below}
-use Rattle.need_order.specs.Gathering.{lacks}
-use Rattle.need_order.specs.Needs.{among, IsPath, IsWithin, HasNoCircle, IsOrder}
+use Rattle.need_order.specs.Needs.{among, IsWithin, HasNoCircle, IsOrder}
 use Rattle.need_order.specs.Settling.{Follows, IsSettled}
-use Rattle.need_order.proofs.Sets.{among-head, among-left, among-right, all_there, lacks-none, lacks-from_all}
+use Rattle.need_order.proofs.Numbers.{among-left, all_there, lacks-none, lacks-from_all}
 use Rattle.need_order.proofs.Circles.{ends-within}
 use Rattle.need_order.proofs.Reaching.{stays}
 

@@ -1,12 +1,12 @@
 -- Where an order stands, levels are never used up.
-use Rattle.std.proofs.Common.{◌≡◌, ◌⊎◌, inl, inr, ℕ, zero, suc, ◌+◌, ◌-◌, ◌<◌, ◌≤◌, Bool, true, false, List, [], ◌∷◌, ◌++◌, length, refl, sym, ap, ◌∙◌, subst, arith, append_assoc, append-nil}
+use Rattle.std.proofs.Common.{◌≡◌, inl, inr, ℕ, suc, ◌+◌, ◌-◌, ◌≤◌, true, false, List, [], ◌∷◌, ◌++◌, length, sym, ap, ◌∙◌, subst, arith, append_assoc, append-nil}
 use Rattle.std.proofs.lemmas.Bool.{true≢false}
 use Rattle.std.proofs.lemmas.List.{length_push}
-use Rattle.need_order.specs.Needs.{among, IsOrder}
+use Rattle.need_order.specs.Needs.{among}
 use Rattle.need_order.specs.Gathering.{lacks}
 use Rattle.need_order.specs.Settling.{Follows}
 use Rattle.need_order.specs.Levels.{by_levels, IsMadeOfNeeds}
-use Rattle.need_order.proofs.Sets.{among-cases, among-one, among-left, among-right, among-end, lacks-none}
+use Rattle.need_order.proofs.Numbers.{among-cases, among-one, lacks-none}
 
 module _ {P X : Type 0} (at : ℕ → P) (needs : ℕ → List ℕ) (make : (P → X) → P → X) (none : X) (uses : IsMadeOfNeeds at needs make) where
   -- the value of these doesn't change from this level on

@@ -1,4 +1,4 @@
-pub mod Sets
+pub mod Numbers
 pub mod Settling
 pub mod Reaching
 pub mod Circles
@@ -6,3 +6,5 @@ pub mod Following
 pub mod Levels
 pub mod Depths
 pub mod Sums
+pub mod Steps
+pub mod Deepening

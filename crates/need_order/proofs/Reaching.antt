@@ -1,14 +1,13 @@
 -- What a search gathers, and what ranks exclude.
-use Rattle.std.proofs.Common.{◌≡◌, ◌⊎◌, inl, inr, ℕ, zero, suc, ◌+◌, ◌<◌, ◌≤◌, Bool, true, false, cond, not, nat_eq, nat_lt, nat_le, List, [], ◌∷◌, ◌++◌, length, take, drop, take-append-drop, get_or, Decides, refl, sym, ap, ◌∙◌, subst, arith, append_assoc, append-nil, le_refl, le_trans, Some, None, slice_get}
-use Rattle.std.specs.List.{list_any}
-use Rattle.std.proofs.lemmas.Bool.{cases_Bool, cases_lt, eqb-true, or_cases, ltb-true, ltb-false, lt-ltb, leb-false, true≢false}
+use Rattle.std.proofs.Common.{◌≡◌, ◌⊎◌, inl, inr, ℕ, ◌+◌, ◌<◌, ◌≤◌, Bool, true, false, nat_eq, nat_lt, nat_le, List, [], ◌∷◌, ◌++◌, length, take, drop, take-append-drop, get_or, Decides, refl, sym, ap, ◌∙◌, subst, arith, append_assoc, append-nil, Some, None, slice_get}
+use Rattle.std.proofs.lemmas.Bool.{cases_lt, eqb-true, or_cases, ltb-true, ltb-false, leb-false, true≢false}
 use Rattle.std.proofs.lemmas.List.{take-append-le, take_all, take_more}
 use Rattle.std.proofs.lemmas.Option.{slice_get_past, slice_get_within, get_or_from_slice_get, slice_get-get_or}
 use Rattle.need_order.specs.declared.element.Element.{Element}
 use Rattle.need_order.specs.Needs.{among, needs, needs_in, needs_of, Leads, IsPath, IsWithin}
-use Rattle.need_order.specs.Gathering.{with_item, with_items, Gathering, gathering}
+use Rattle.need_order.specs.Gathering.{Gathers, with_item, with_items, Gathering, gathering}
 use Rattle.need_order.specs.Ranks.{IsFalling, rises_to, rank_of}
-use Rattle.need_order.proofs.Sets.{among-cases, among-one, among-left, among-end, among-right, among-head, or_none, or_right}
+use Rattle.need_order.proofs.Numbers.{among-cases, among-one, among-left, among-end, among-head, or_none, or_right}
 use Rattle.need_order.proofs.Settling.{way_on, way_once}
 
 module _ (n : ℕ) where
@@ -151,14 +150,10 @@ pub needs-past : (elements : List Element) (e : ℕ) → length elements ≤ e �
 unfolding needs
 needs-past elements e h = ap needs_in (slice_get_past elements e h)
 
--- a search, as a state says it
-abbrev pub Adds : List ℕ → Gathering → Gathering → Type 0
-Adds ds old now = now ≡ gathering old.limit (with_items old.limit ds old.items)
-
-pub adds_limit : (n : ℕ) (ds : List ℕ) (old now : Gathering) → Adds ds old now → old.limit ≡ n → now.limit ≡ n
+pub adds_limit : (n : ℕ) (ds : List ℕ) (old now : Gathering) → Gathers old now ds → old.limit ≡ n → now.limit ≡ n
 adds_limit n ds old now made fits = ap (λ (g : Gathering). g.limit) made ∙ fits
 
-pub adds_items : (n : ℕ) (ds : List ℕ) (old now : Gathering) → Adds ds old now → old.limit ≡ n → now.items ≡ with_items n ds old.items
+pub adds_items : (n : ℕ) (ds : List ℕ) (old now : Gathering) → Gathers old now ds → old.limit ≡ n → now.items ≡ with_items n ds old.items
 adds_items n ds old now made fits = ap (λ (g : Gathering). g.items) made ∙ ap (λ m. with_items m ds old.items) fits
 
 pub past_end : (xs : List ℕ) (i : ℕ) → slice_get xs i ≡ None → length xs ≤ i

@@ -1,15 +1,15 @@
 -- What settling keeps, and when it is done.
-use Rattle.std.proofs.Common.{◌≡◌, ◌⊎◌, inl, inr, ℕ, zero, suc, ◌+◌, ◌<◌, ◌≤◌, Bool, true, false, cond, not, nat_eq, nat_lt, List, [], ◌∷◌, ◌++◌, length, refl, sym, ap, ◌∙◌, subst, arith, append_assoc, append-nil, le_refl, le_trans}
-use Rattle.std.specs.List.{list_any, IsDistinct}
+use Rattle.std.proofs.Common.{◌≡◌, ◌⊎◌, inl, inr, ℕ, zero, suc, ◌+◌, ◌<◌, ◌≤◌, Bool, true, false, nat_eq, nat_lt, List, [], ◌∷◌, ◌++◌, length, refl, sym, ap, ◌∙◌, subst, arith, append_assoc, append-nil, le_refl, le_trans}
+use Rattle.std.specs.List.{IsDistinct}
 use Rattle.std.specs.Cmp.{nat_eq_equiv}
-use Rattle.std.proofs.lemmas.Bool.{cases_Bool, ltb-true, ltb-false, true≢false, lt-ltb}
+use Rattle.std.proofs.lemmas.Bool.{cases_Bool, ltb-true, ltb-false, true≢false}
 use Rattle.std.proofs.lemmas.List.{length_push}
 use Rattle.std.proofs.lemmas.Map.Keys.{IsDistinct-push}
 use Rattle.std.proofs.lemmas.Map.Steps.{length-le_from_distinct_below}
-use Rattle.need_order.specs.Needs.{among, IsOrder, Leads, IsPath, IsWithin, HasCircle}
-use Rattle.need_order.specs.Gathering.{lacks, with_item, Gathering, gathering}
-use Rattle.need_order.specs.Settling.{Follows, settled, swept, IsSettled}
-use Rattle.need_order.proofs.Sets.{among-cases, among-one, among-left, among-end, among-right, all_there, one_missing, lacks-none, lacks-some}
+use Rattle.need_order.specs.Needs.{among, Leads, IsPath, IsWithin, HasCircle}
+use Rattle.need_order.specs.Gathering.{lacks, Gathering, gathering}
+use Rattle.need_order.specs.Settling.{Sweeps, Follows, settled, swept, IsSettled}
+use Rattle.need_order.proofs.Numbers.{among-cases, among-one, all_there, one_missing, lacks-some}
 
 pub record Sound (needs : ℕ → List ℕ) (n : ℕ) (items : List ℕ) : Type 0 where
   pub follows : Follows needs [] items
@@ -110,23 +110,19 @@ module _ (needs : ℕ → List ℕ) (n : ℕ) where
   pub is_full : (items : List ℕ) → Sound needs n items → n ≤ length items → IsSettled needs n items
   is_full items h full = is_settled items h (λ e inside. inl (all_there items n h.distinct h.below full e inside))
 
-  -- a sweep, as a state says it
-  abbrev pub Sweeps : List ℕ → Gathering → Gathering → Type 0
-  Sweeps es old now = now ≡ gathering old.limit (swept n needs old.limit es old.items)
-
-  swept_items : (es : List ℕ) (old now : Gathering) → Sweeps es old now → old.limit ≡ n → now.items ≡ swept n needs n es old.items
+  swept_items : (es : List ℕ) (old now : Gathering) → Sweeps needs n old now es → old.limit ≡ n → now.items ≡ swept n needs n es old.items
   swept_items es old now made fits = ap (λ (g : Gathering). g.items) made ∙ ap (λ m. swept n needs m es old.items) fits
 
-  pub swept_limit : (es : List ℕ) (old now : Gathering) → Sweeps es old now → old.limit ≡ n → now.limit ≡ n
+  pub swept_limit : (es : List ℕ) (old now : Gathering) → Sweeps needs n old now es → old.limit ≡ n → now.limit ≡ n
   swept_limit es old now made fits = ap (λ (g : Gathering). g.limit) made ∙ fits
 
-  pub swept_sound : (es : List ℕ) (old now : Gathering) → Sweeps es old now → old.limit ≡ n → Sound needs n old.items → Sound needs n now.items
+  pub swept_sound : (es : List ℕ) (old now : Gathering) → Sweeps needs n old now es → old.limit ≡ n → Sound needs n old.items → Sound needs n now.items
   swept_sound es old now made fits h = subst (Sound needs n) (sym (swept_items es old now made fits)) (sound-swept es old.items h)
 
-  pub swept_longer : (es : List ℕ) (old now : Gathering) → Sweeps es old now → old.limit ≡ n → length old.items ≤ length now.items
+  pub swept_longer : (es : List ℕ) (old now : Gathering) → Sweeps needs n old now es → old.limit ≡ n → length old.items ≤ length now.items
   swept_longer es old now made fits = subst (λ ys. length old.items ≤ length ys) (sym (swept_items es old now made fits)) (longer-swept es old.items)
 
-  pub swept_done : (es : List ℕ) (old now : Gathering) → Sweeps es old now → old.limit ≡ n → Sound needs n old.items → length now.items ≤ length old.items → ((e : ℕ) → e < n → among e es ≡ true) → IsSettled needs n now.items
+  pub swept_done : (es : List ℕ) (old now : Gathering) → Sweeps needs n old now es → old.limit ≡ n → Sound needs n old.items → length now.items ≤ length old.items → ((e : ℕ) → e < n → among e es ≡ true) → IsSettled needs n now.items
   swept_done es old now made fits h short all =
       subst (IsSettled needs n) (sym (swept_items es old now made fits ∙ stays-same es old.items short'))
       (is_settled old.items h (λ e inside. stays-swept es old.items short' e (all e inside) inside))

@@ -19,6 +19,10 @@ unfoldable pub with_items : ℕ → List ℕ → List ℕ → List ℕ
 with_items limit [] items = items
 with_items limit (d ∷ ds) items = with_items limit ds (with_item limit d items)
 
+-- these were gathered too
+abbrev pub Gathers : Gathering → Gathering → List ℕ → Type 0
+Gathers old new numbers = new ≡ gathering old.limit (with_items old.limit numbers old.items)
+
 -- the flags tell which numbers are there, and none is there twice
 pub record FlagsTell (flags : List Bool) (items : List ℕ) : Type 0 where
   pub told : (d : ℕ) → get_or flags d false ≡ among d items

@@ -1,5 +1,5 @@
 ghost use Rattle.std.specs.Prelude.{◌≡◌, OnOk};
-ghost use Rattle.need_order.specs.Gathering.{gathering, lacks, with_items};
+ghost use Rattle.need_order.specs.Gathering.{Gathers, lacks};
 ghost use Rattle.need_order.specs.Needs.{needs_of};
 ghost use Rattle.need_order.specs.Ranks.{rank_of, rises_to};
 
@@ -51,7 +51,7 @@ fn any_rises_to(ranks: &[usize], rank: usize, needs: &[usize]) -> bool
 
 /// Gathers these too.
 fn add_each(needs: &[usize], set: &mut Gathered) -> Result<(), NoMemory>
-    ensures { OnOk result (set.new ≡ gathering set.old.limit (with_items set.old.limit needs.now set.old.items)) }
+    ensures { OnOk result (Gathers set.old set.new needs.now) }
 {
     for need in needs {
         set.add(*need)?;
@@ -87,7 +87,7 @@ impl Element {
     /// Gathers what it needs.
     #[tactic(auto, unfolding(crate::specs::Gathering::with_items))]
     pub(crate) fn add_needs(&self, set: &mut Gathered) -> Result<(), NoMemory>
-        ensures { OnOk result (set.new ≡ gathering set.old.limit (with_items set.old.limit (needs_of self.now) set.old.items)) }
+        ensures { OnOk result (Gathers set.old set.new (needs_of self.now)) }
     {
         match self.base {
             Some(base) => {

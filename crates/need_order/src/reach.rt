@@ -1,6 +1,6 @@
 ghost use Rattle.std.specs.Prelude.{◌≡◌, length, IfOk, OnOk};
 ghost use Rattle.std.specs.Bool.{Decides};
-ghost use Rattle.need_order.specs.Gathering.{gathering, with_items};
+ghost use Rattle.need_order.specs.Gathering.{Gathers};
 ghost use Rattle.need_order.specs.Needs.{IsWithin, Leads, needs};
 
 use crate::element::Element;
@@ -11,7 +11,7 @@ use std::alloc::Global;
 /// Gathers what the element of this number needs.
 #[tactic(auto, unfolding(crate::specs::Needs::needs, crate::specs::Gathering::with_items))]
 fn add_needs(elements: &[Element], number: usize, set: &mut Gathered) -> Result<(), NoMemory>
-    ensures { OnOk result (set.new ≡ gathering set.old.limit (with_items set.old.limit (needs elements.now number) set.old.items)) }
+    ensures { OnOk result (Gathers set.old set.new (needs elements.now number)) }
 {
     match elements.get(number) {
         Some(element) => element.add_needs(set),

@@ -1,7 +1,6 @@
 ghost use Rattle.std.specs.Prelude.{◌≡◌, ◌<◌, ℕ, true, length, IfOk, OnOk};
-ghost use Rattle.need_order.specs.Gathering.{gathering};
 ghost use Rattle.need_order.specs.Needs.{among, needs};
-ghost use Rattle.need_order.specs.Settling.{IsSettled, settled, swept};
+ghost use Rattle.need_order.specs.Settling.{IsSettled, Sweeps, Tries};
 
 use crate::element::Element;
 use crate::gathered::Gathered;
@@ -11,7 +10,7 @@ use std::alloc::Global;
 /// Gathers an element where all that it needs is gathered.
 #[tactic(auto, unfolding(crate::specs::Needs::needs))]
 fn settle(elements: &[Element], number: usize, set: &mut Gathered) -> Result<(), NoMemory>
-    ensures { OnOk result (set.new ≡ gathering set.old.limit (settled (length elements.now) (needs elements.now) set.old.limit number set.old.items)) }
+    ensures { OnOk result (Tries (needs elements.now) (length elements.now) set.old set.new number) }
 {
     match elements.get(number) {
         Some(element) => {
@@ -26,7 +25,7 @@ fn settle(elements: &[Element], number: usize, set: &mut Gathered) -> Result<(),
 
 /// The same for these elements, one after the other.
 fn sweep(elements: &[Element], numbers: &[usize], set: &mut Gathered) -> Result<(), NoMemory>
-    ensures { OnOk result (set.new ≡ gathering set.old.limit (swept (length elements.now) (needs elements.now) set.old.limit numbers.now set.old.items)) }
+    ensures { OnOk result (Sweeps (needs elements.now) (length elements.now) set.old set.new numbers.now) }
 {
     for number in numbers {
         settle(elements, *number, set)?;

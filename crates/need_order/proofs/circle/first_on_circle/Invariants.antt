@@ -1,4 +1,4 @@
-use Rattle.std.proofs.Common.{◌≡◌, ◌<◌, ◌+◌, ℕ, false}
+use Rattle.std.proofs.Common.{◌≡◌}
 use Rattle.need_order.specs.Needs.{HasNoneBelow}
 use Rattle.need_order.proofs.circle.first_on_circle.Given as goal
 

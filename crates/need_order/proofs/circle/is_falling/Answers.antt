@@ -1,9 +1,8 @@
-use Rattle.std.proofs.Common.{◌≡◌, ◌<◌, ◌≤◌, ◌+◌, sym, ◌∙◌, ap, length, subst, inl, inr, refl, false, arith}
+use Rattle.std.proofs.Common.{◌≡◌, ◌+◌, sym, ap, subst, inl, inr, false, arith}
 use Rattle.std.proofs.lemmas.Bool.{cases_eq, cases_lt}
-use Rattle.std.proofs.lemmas.Option.{slice_get-get_or}
 use Rattle.need_order.specs.Needs.{needs}
 use Rattle.need_order.specs.Ranks.{rises_to, rank_of}
-use Rattle.need_order.proofs.Reaching.{needs-at, needs-past, falls-here}
+use Rattle.need_order.proofs.Reaching.{needs-past, falls-here}
 use Rattle.need_order.proofs.circle.is_falling.Goals as goal
 
 pub loop-element-preserved : goal.loop-element-preserved
@@ -12,7 +11,7 @@ loop-element-preserved c = record {
   falls = λ e h. elim (cases_eq e c.loop-element.number) [
     | inl same ↦ subst (λ i. rises_to c.args.ranks.now (rank_of c.args.ranks.now i + 1) (needs c.args.elements.now i) ≡ false) (sym same)
         (falls-here c.args.elements.now c.args.ranks.now c.loop-element.number c.loop-element.element-index c.element-item.result c.rank_of-rank.result c.loop-element.invariant.index c.loop-element-test.true c.element-item.is c.rank_of-rank.ensures (sym c.if-rises_to.ensures))
-    | inr other ↦ c.loop-element.invariant.falls e (Rattle.need_order.proofs.Sets.less_one e c.loop-element.number h other)
+    | inr other ↦ c.loop-element.invariant.falls e (Rattle.need_order.proofs.Numbers.less_one e c.loop-element.number h other)
   ];
 }
 

@@ -1,6 +1,6 @@
-use Rattle.std.proofs.Common.{◌≡◌, sym, ◌∙◌, ap, drop, get_or, ◌+◌, arith}
+use Rattle.std.proofs.Common.{sym, ◌∙◌, ap, drop, get_or, ◌+◌}
 use Rattle.std.proofs.lemmas.List.{at_drop_more, at_drop_all}
-use Rattle.need_order.specs.Gathering.{Gathering, gathering, with_item, with_items}
+use Rattle.need_order.specs.Gathering.{Gathering, with_item, with_items}
 use Rattle.need_order.proofs.element.add_each.Goals as goal
 
 pub loop-need-preserved : goal.loop-need-preserved

@@ -1,9 +1,8 @@
-use Rattle.std.proofs.Common.{◌≡◌, ◌<◌, ◌≤◌, ◌+◌, sym, ◌∙◌, ap, length, subst, None, arith, []}
-use Rattle.std.specs.List.{slice_get}
+use Rattle.std.proofs.Common.{◌+◌, sym, ◌∙◌, ap, length, subst, arith}
 use Rattle.need_order.specs.Needs.{needs}
 use Rattle.need_order.specs.Gathering.{Gathering, with_items}
 use Rattle.need_order.proofs.Reaching.{Searched, search_begun, search_more, search_done, adds_limit, adds_items, past_end}
-use Rattle.need_order.proofs.Sets.{length_within}
+use Rattle.need_order.proofs.Numbers.{length_within}
 use Rattle.need_order.proofs.reach.reaches.Goals as goal
 
 pub loop-place-init : goal.loop-place-init

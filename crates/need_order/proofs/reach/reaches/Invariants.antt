@@ -1,4 +1,4 @@
-use Rattle.std.proofs.Common.{◌≡◌, ◌≤◌, length}
+use Rattle.std.proofs.Common.{◌≡◌, length}
 use Rattle.need_order.specs.Needs.{needs}
 use Rattle.need_order.proofs.Reaching.{Searched}
 use Rattle.need_order.proofs.reach.reaches.Given as goal

@@ -1,4 +1,4 @@
-use Rattle.std.proofs.Common.{◌≡◌, ◌<◌, ◌≤◌, sym, ◌∙◌, ap, length, subst, ℕ, true, arith}
+use Rattle.std.proofs.Common.{◌≡◌, sym, ap, length, subst, true, arith}
 use Rattle.need_order.specs.Needs.{needs, among}
 use Rattle.need_order.specs.Gathering.{Gathering}
 use Rattle.need_order.proofs.Settling.{Sound, sound-none, swept_limit, swept_sound, swept_longer, swept_done, is_full}

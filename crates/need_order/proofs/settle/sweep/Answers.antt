@@ -1,6 +1,6 @@
-use Rattle.std.proofs.Common.{◌≡◌, sym, ◌∙◌, ap, drop, get_or, ◌+◌, length, arith}
+use Rattle.std.proofs.Common.{sym, ◌∙◌, ap, drop, get_or, ◌+◌, length}
 use Rattle.std.proofs.lemmas.List.{at_drop_more, at_drop_all}
-use Rattle.need_order.specs.Gathering.{Gathering, gathering}
+use Rattle.need_order.specs.Gathering.{Gathering}
 use Rattle.need_order.specs.Settling.{settled, swept}
 use Rattle.need_order.specs.Needs.{needs}
 use Rattle.need_order.proofs.settle.sweep.Goals as goal

@@ -1,6 +1,6 @@
-use Rattle.std.proofs.Common.{◌≡◌, ◌<◌, sym, ◌∙◌, set, true, subst, length, arith}
+use Rattle.std.proofs.Common.{◌<◌, sym, ◌∙◌, set, true, subst, length, arith}
 use Rattle.need_order.specs.Gathering.{FlagsTell}
-use Rattle.need_order.proofs.Sets.{flags_push}
+use Rattle.need_order.proofs.Numbers.{flags_push}
 use Rattle.std.proofs.lemmas.List.{get_or_read}
 use Rattle.need_order.proofs.gathered.Gathered.add.Goals as goal
 

@@ -1,6 +1,4 @@
-use Rattle.std.proofs.Common.{◌≡◌, sym, ◌∙◌, ap, false, get_or, replicate, subst₂, arith}
-use Rattle.need_order.specs.Gathering.{FlagsTell}
-use Rattle.need_order.proofs.Sets.{flags_new}
+use Rattle.need_order.proofs.Numbers.{flags_new}
 use Rattle.need_order.proofs.gathered.Gathered.new.Goals as goal
 
 pub invariant_of-result : goal.invariant_of-result
