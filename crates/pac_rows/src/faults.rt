@@ -55,7 +55,7 @@ fn check_faults(rt: HostRuntime) -> Result<(), Fail> {
 }
 
 // Descriptions whose text is refused.
-const DESCRIPTION_FAULTS: [(&str, &str); 14] = [
+const DESCRIPTION_FAULTS: [(&str, &str); 24] = [
     ("", "description: syntax at byte 0"),
     (
         "<device><name>D</name></device>",
@@ -109,18 +109,7 @@ const DESCRIPTION_FAULTS: [(&str, &str); 14] = [
         "<device><name>D</name><peripherals><peripheral><name>T</name><baseAddress>0</baseAddress><registers><cluster><name>R</name><addressOffset>0</addressOffset></cluster><register><name> R</name><addressOffset>4</addressOffset></register></registers></peripheral></peripherals></device>",
         "description: name used twice at bytes 182 to 183",
     ),
-];
-
-#[test]
-fn description_faults(rt: HostRuntime) -> Result<(), Fail> {
-    for (description, fault) in DESCRIPTION_FAULTS {
-        lists(&rt, description, &refusal(fault, 6, fault))?;
-    }
-    Ok(())
-}
-
-// An element that isn't in its row, once in each container of the schema's table.
-const UNKNOWN_ELEMENTS: [(&str, &str); 10] = [
+    // an unknown element, once in each container
     (
         "<device><name>D</name><colour/><peripherals></peripherals></device>",
         "description: unknown element at bytes 23 to 29",
@@ -164,8 +153,8 @@ const UNKNOWN_ELEMENTS: [(&str, &str); 10] = [
 ];
 
 #[test]
-fn an_unknown_element_in_each_container(rt: HostRuntime) -> Result<(), Fail> {
-    for (description, fault) in UNKNOWN_ELEMENTS {
+fn description_faults(rt: HostRuntime) -> Result<(), Fail> {
+    for (description, fault) in DESCRIPTION_FAULTS {
         lists(&rt, description, &refusal(fault, 6, fault))?;
     }
     Ok(())
