@@ -5,8 +5,6 @@
 #[cfg(test)]
 mod case_tables;
 #[cfg(test)]
-mod copies;
-#[cfg(test)]
 mod elements;
 #[cfg(test)]
 mod files;
