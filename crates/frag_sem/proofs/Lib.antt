@@ -7,3 +7,4 @@ pub mod Attained
 pub mod Rules
 pub mod Events
 pub mod Walking
+pub mod Likeness

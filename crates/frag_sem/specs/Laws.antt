@@ -23,8 +23,10 @@ use Rattle.frag_sem.specs.PlaceTyping.{call_leads}
 use Rattle.frag_sem.specs.ScriptTyping.{◌>>=◌, call_types}
 use Rattle.frag_sem.specs.Surfaces.{RegisterCalls}
 use Rattle.frag_sem.specs.TextSurface.{register_calls, text_surface}
-use Rattle.frag_sem.specs.TextMeaning.{next_answer, text_meaning}
-use Rattle.frag_sem.specs.TextPresets.{text_presets}
+use Rattle.frag_sem.specs.Likeness.{AlikePlaces}
+use Rattle.frag_sem.specs.Meaning.{Places, meaning, next_answer}
+use Rattle.frag_sem.specs.Presets.{presets}
+use Rattle.frag_sem.specs.TextMeaning.{text_meaning, text_presets}
 use Rattle.frag_sem.specs.PreludeWords.{as_bits, bit_of, is_set, ones, start_word, taken, written}
 
 -- ---- layout
@@ -158,6 +160,16 @@ EventsAreFew = (krate : CrateTree) (script : Script) (answers : List ℕ) → le
 abbrev pub PlacesAreRegisters : Type 0
 PlacesAreRegisters =
     (test : RegisterModule → Bool) (krate : CrateTree) → list_all test (all_registers krate) ≡ true → (place : Place) → IfSome (register_at krate place) (λ found. test found.register ≡ true)
+
+-- ---- likeness
+
+-- Where at each place stand alike registers, or none on both sides, each script has the same events, whatever the answers are.
+abbrev pub AlikeMean : Type 0
+AlikeMean = (one other : Places) → AlikePlaces one other → (script : Script) (answers : List ℕ) → meaning one script answers ≡ meaning other script answers
+
+-- So it has the same presets.
+abbrev pub AlikePreset : Type 0
+AlikePreset = (one other : Places) → AlikePlaces one other → (script : Script) → presets one script ≡ presets other script
 
 -- ---- surfaces
 

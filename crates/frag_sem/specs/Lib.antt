@@ -10,7 +10,9 @@ pub mod TextSurface
 pub mod ScriptTyping
 pub mod PlaceTyping
 pub mod PreludeWords
+pub mod Meaning
+pub mod Presets
+pub mod Likeness
 pub mod TextMeaning
-pub mod TextPresets
 pub mod Worked
 pub mod Laws

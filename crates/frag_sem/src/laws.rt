@@ -1,5 +1,5 @@
 // The laws of layouts and of the words that readers and writers make.
-ghost use Rattle.frag_sem.specs.Laws.{BitReaderGets, CallsAreThere, CallsByModules, EndsDecide, EventsAreFew, EventsInRange, FieldsAligned, FieldsApart, FitsByTests, PlaceBehindEnd, PlaceBehindGap, PlacesAreRegisters, PresetsInRange, ReaderGets, ReadsAreAnswered, ReadsWritten, RefusedByTests, StartWithoutMasks, StartWordIsStart, WriterPuts, WrittenStays};
+ghost use Rattle.frag_sem.specs.Laws.{AlikeMean, AlikePreset, BitReaderGets, CallsAreThere, CallsByModules, EndsDecide, EventsAreFew, EventsInRange, FieldsAligned, FieldsApart, FitsByTests, PlaceBehindEnd, PlaceBehindGap, PlacesAreRegisters, PresetsInRange, ReaderGets, ReadsAreAnswered, ReadsWritten, RefusedByTests, StartWithoutMasks, StartWordIsStart, WriterPuts, WrittenStays};
 
 /// Where the fields of a struct stand: behind a gap that ends at a multiple of the alignment, there; and
 /// no two of them share a byte.
@@ -42,6 +42,13 @@ pub fn meaning_law()
     ensures events { EventsInRange }
     ensures few { EventsAreFew }
     ensures presets { PresetsInRange }
+{}
+
+/// A script means the same, and has the same presets, wherever alike registers stand at each place: what a
+/// register does with words is all that counts of it.
+pub fn likeness_law()
+    ensures meaning { AlikeMean }
+    ensures presets { AlikePreset }
 {}
 
 /// What the surface of a crate says of a register call is what its modules say, found by walking them; and
