@@ -9,6 +9,7 @@ use Rattle.frag_tree.specs.declared.block.Module.{Module}
 use Rattle.frag_tree.specs.declared.block.StructField.{StructField}
 use Rattle.frag_tree.specs.declared.krate.Crate.{Crate}
 use Rattle.frag_tree.specs.declared.krate.Slot.{Slot}
+use Rattle.frag_tree.specs.declared.krate.Version.{Version}
 use Rattle.frag_tree.specs.declared.register.RegisterModule.{RegisterModule}
 
 -- a block module without the modules inside it
@@ -33,8 +34,9 @@ pub data ModuleTree : Type 0 where
   one_register : RegisterModule → ModuleTree
   one_block : BlockTree → ModuleTree
 
--- a crate: its slots and its block modules
+-- a crate: the form of its text, its slots and its block modules
 pub record CrateTree : Type 0 where
+  pub version : Version
   pub slots : List Slot
   pub blocks : List BlockTree
 
@@ -65,4 +67,4 @@ module_tree = fold-Module ModuleTree BlockTree module_layer block_layer
 
 -- the pure tree of a crate
 unfoldable pub crate_tree : Crate → CrateTree
-crate_tree krate = record { slots = krate.slots; blocks = map block_tree krate.blocks.items }
+crate_tree krate = record { version = krate.version; slots = krate.slots; blocks = map block_tree krate.blocks.items }
