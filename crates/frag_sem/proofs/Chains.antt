@@ -10,7 +10,7 @@ use Rattle.frag_tree.specs.declared.access.Body.TheVariants as body
 use Rattle.frag_tree.specs.declared.block.Element.{Element}
 use Rattle.frag_tree.specs.declared.block.Element.TheVariants as element
 use Rattle.frag_tree.specs.declared.krate.Slot.{Slot}
-use Rattle.frag_tree.specs.declared.statement.PlaceStep.{PlaceStep}
+use Rattle.frag_tree.specs.declared.statement.Call.{Call}
 use Rattle.frag_tree.specs.Trees.{BlockTree, CrateTree, Modules, ModuleTree, ended, register, block, one_register, one_block}
 use Rattle.frag_sem.specs.AddressEnds.{End, access_end, accessors_end, addresses_fit, block_end, end_fits, ends, greater, last_index, module_end, slot_fits}
 use Rattle.frag_sem.specs.CallPlaces.{RegisterAt, admits, body_offset, bytes_of, count_of, from_slot, leads, offset_of, register_at, slot_named}
@@ -101,7 +101,7 @@ earlier_by bound start last offset None below h = tt
 earlier_by bound start last offset (Some n) below h = omega arith
 
 -- so behind an accessor, in the module of its element
-entered_by : (bound start : ℕ) (unit : BlockTree) (step : PlaceStep) (access : Access) (inner : ModuleTree) → Entered unit step access inner → EndsBy bound start (block_end unit) → EndsBy bound (start + offset_of unit access step.index) (module_end inner)
+entered_by : (bound start : ℕ) (unit : BlockTree) (step : Call) (access : Access) (inner : ModuleTree) → Entered unit step access inner → EndsBy bound start (block_end unit) → EndsBy bound (start + offset_of unit access step.index) (module_end inner)
 entered_by bound start unit step access inner entered h =
     let last = offset_of unit access (last_index (count_of unit access)) in
     let end_is : beside access.element (ends unit.inside) ≡ Some (module_end inner) = ends_beside access.element unit.inside ∙ ap (option_map module_end) entered.module_is in
@@ -114,7 +114,7 @@ entered_by bound start unit step access inner entered h =
     there
 
 -- where the greatest end in a module is at or below a bound, so is the end of each register to which accessors lead
-pub chain_by : (bound : ℕ) (steps : List PlaceStep) (unit : ModuleTree) (start : ℕ) → EndsBy bound start (module_end unit) → ReachesBy bound (leads steps unit start)
+pub chain_by : (bound : ℕ) (steps : List Call) (unit : ModuleTree) (start : ℕ) → EndsBy bound start (module_end unit) → ReachesBy bound (leads steps unit start)
 chain_by bound steps unit start h =
     leads_keeps (λ inner from. EndsBy bound from (module_end inner)) (λ found. found.address + bytes_of found.register ≤ bound)
     (λ register_of from end. end)
@@ -126,11 +126,11 @@ end_by : (start : ℕ) (end : End) → end_fits start end ≡ true → EndsBy (2
 end_by start None h = tt
 end_by start (Some n) h = leb-true (start + n) (2 ^ 64) h
 
-slot_by : (krate : CrateTree) (steps : List PlaceStep) (slot : Slot) (o : Option BlockTree) → end_fits slot.address (option_and_then block_end o) ≡ true → ReachesBy (2 ^ 64) (option_and_then (λ unit. leads steps (one_block unit) slot.address) o)
+slot_by : (krate : CrateTree) (steps : List Call) (slot : Slot) (o : Option BlockTree) → end_fits slot.address (option_and_then block_end o) ≡ true → ReachesBy (2 ^ 64) (option_and_then (λ unit. leads steps (one_block unit) slot.address) o)
 slot_by krate steps slot None h = tt
 slot_by krate steps slot (Some unit) h = chain_by (2 ^ 64) steps (one_block unit) slot.address (end_by slot.address (block_end unit) h)
 
-place_by : (krate : CrateTree) (steps : List PlaceStep) (o : Option Slot) → ((slot : Slot) → o ≡ Some slot → slot_fits krate slot ≡ true) → ReachesBy (2 ^ 64) (option_and_then (from_slot krate steps) o)
+place_by : (krate : CrateTree) (steps : List Call) (o : Option Slot) → ((slot : Slot) → o ≡ Some slot → slot_fits krate slot ≡ true) → ReachesBy (2 ^ 64) (option_and_then (from_slot krate steps) o)
 place_by krate steps None h = tt
 place_by krate steps (Some slot) h = slot_by krate steps slot (top_block slot.block krate.blocks) (h slot refl)
 

@@ -16,7 +16,7 @@ use Rattle.frag_tree.specs.declared.script.ScriptLine.{ScriptLine}
 use Rattle.frag_tree.specs.declared.statement.Link.{Link}
 use Rattle.frag_tree.specs.declared.statement.Link.TheVariants as link
 use Rattle.frag_tree.specs.declared.statement.Place.{Place}
-use Rattle.frag_tree.specs.declared.statement.PlaceStep.{PlaceStep}
+use Rattle.frag_tree.specs.declared.statement.Call.{Call}
 use Rattle.frag_tree.specs.declared.statement.Statement.{Statement}
 use Rattle.frag_tree.specs.declared.statement.Statement.TheVariants as statement
 use Rattle.frag_tree.specs.Trees.{BlockTree, CrateTree, ModuleTree, one_block}
@@ -25,10 +25,10 @@ use Rattle.frag_sem.specs.CrateTyping.{AddressRange, Constants, constants_fit, c
 use Rattle.frag_sem.specs.Laws.{AccessInRange, AreAnswered, EventInRange, EventsAreFew, EventsInRange, PlacesAreRegisters, PresetsInRange, ReadsAreAnswered}
 use Rattle.frag_sem.specs.Modules.{all_registers, registers_in, top_block}
 use Rattle.frag_sem.specs.PreludeWords.{complement, start_word}
-use Rattle.frag_sem.specs.ProxyTypes.{writers_of}
+use Rattle.frag_sem.specs.Spots.{spot_at}
 use Rattle.frag_sem.specs.Meaning.{Acts, ActsAt, Bound, Outcome, Places, Standing, answer_for, argument, at_place, chain_written, events_then, let_outcome, lines_meaning, link_written, meaning, modify_outcome, names_within, next_answer, number_said, outcome_of, reset_outcome, value_of, write_outcome}
 use Rattle.frag_sem.specs.Presets.{Preset, called_places, preset_of, presets}
-use Rattle.frag_sem.specs.TextMeaning.{acts_at, field_written, form_written, one_to_modify, started, text_acts, text_at, text_meaning, text_presets, writer_written, zero_to_modify}
+use Rattle.frag_sem.specs.TextMeaning.{acts_at, field_written, form_written, one_to_modify, started, text_acts, text_at, text_meaning, text_presets, writer_named, writer_written, zero_to_modify}
 use Rattle.frag_sem.proofs.Leading.{inside_has, leads_keeps, registers_at, registers_gather}
 use Rattle.frag_sem.proofs.Lists.{all_both, both_true, found_parts}
 use Rattle.frag_sem.proofs.Words.{some_power, written_small}
@@ -36,19 +36,19 @@ use Rattle.frag_sem.proofs.Words.{some_power, written_small}
 -- ---- the register of a place is one of the crate's
 
 -- what all register modules of a module have, has the register to which accessors lead
-chain_has : (test : RegisterModule → Bool) (steps : List PlaceStep) (unit : ModuleTree) (start : ℕ) → list_all test (registers_at unit) ≡ true → IfSome (leads steps unit start) (λ found. test found.register ≡ true)
+chain_has : (test : RegisterModule → Bool) (steps : List Call) (unit : ModuleTree) (start : ℕ) → list_all test (registers_at unit) ≡ true → IfSome (leads steps unit start) (λ found. test found.register ≡ true)
 chain_has test steps unit start h =
     leads_keeps (λ inner from. list_all test (registers_at inner) ≡ true) (λ found. test found.register ≡ true)
     (λ register_of from all. (both_true (test register_of) true all).0)
     (λ block_of from step access inner entered all. inside_has registers_in registers_at registers_gather test block_of.inside access.element inner entered.module_is all)
     steps unit start h
 
-slot_has : (test : RegisterModule → Bool) (krate : CrateTree) → list_all test (all_registers krate) ≡ true → (steps : List PlaceStep) (slot : Slot) (o : Option BlockTree) → top_block slot.block krate.blocks ≡ o → IfSome (option_and_then (λ unit. leads steps (one_block unit) slot.address) o) (λ found. test found.register ≡ true)
+slot_has : (test : RegisterModule → Bool) (krate : CrateTree) → list_all test (all_registers krate) ≡ true → (steps : List Call) (slot : Slot) (o : Option BlockTree) → top_block slot.block krate.blocks ≡ o → IfSome (option_and_then (λ unit. leads steps (one_block unit) slot.address) o) (λ found. test found.register ≡ true)
 slot_has test krate all steps slot None is = tt
 slot_has test krate all steps slot (Some unit) is =
     chain_has test steps (one_block unit) slot.address (found_parts (λ other. bytes_eq slot.block other.head.name) (λ other. registers_in other.inside) test krate.blocks unit is all)
 
-place_has : (test : RegisterModule → Bool) (krate : CrateTree) → list_all test (all_registers krate) ≡ true → (steps : List PlaceStep) (o : Option Slot) → IfSome (option_and_then (from_slot krate steps) o) (λ found. test found.register ≡ true)
+place_has : (test : RegisterModule → Bool) (krate : CrateTree) → list_all test (all_registers krate) ≡ true → (steps : List Call) (o : Option Slot) → IfSome (option_and_then (from_slot krate steps) o) (λ found. test found.register ≡ true)
 place_has test krate all steps None = tt
 place_has test krate all steps (Some slot) = slot_has test krate all steps slot (top_block slot.block krate.blocks) refl
 
@@ -83,20 +83,20 @@ module _ (unit : RegisterModule) (constants : list_all (λ constant. has_bits (b
       let below : kept ≤ base = and_le_l base (complement (bits_of unit.word) (one_to_modify unit)) in
       or_lt (bits_of unit.word) kept (zero_to_modify unit) (omega arith) (mask_small unit.writable parts.0)
 
-  form_small : (writer : Writer) (method : List ℕ) (value word : ℕ) (form : WriteForm) → word < 2 ^ bits_of unit.word → form_written unit writer method value word form < 2 ^ bits_of unit.word
-  form_small writer method value word (write.Bit kind offset) small = written_small (bits_of unit.word) word offset 1 _ small
-  form_small writer method value word (write.Field width bits offset) small = written_small (bits_of unit.word) word offset bits _ small
+  form_small : (writer : Writer) (index : Option ℕ) (method : List ℕ) (value word : ℕ) (form : WriteForm) → word < 2 ^ bits_of unit.word → form_written unit writer index method value word form < 2 ^ bits_of unit.word
+  form_small writer index method value word (write.Bit kind spot) small = written_small (bits_of unit.word) word (spot_at spot index) 1 _ small
+  form_small writer index method value word (write.Field width bits spot) small = written_small (bits_of unit.word) word (spot_at spot index) bits _ small
 
-  writer_small : (method : List ℕ) (value word : ℕ) (o : Option Writer) → word < 2 ^ bits_of unit.word → writer_written unit method value word o < 2 ^ bits_of unit.word
-  writer_small method value word None small = small
-  writer_small method value word (Some writer) small = form_small writer method value word writer.form small
+  writer_small : (index : Option ℕ) (method : List ℕ) (value word : ℕ) (o : Option Writer) → word < 2 ^ bits_of unit.word → writer_written unit index method value word o < 2 ^ bits_of unit.word
+  writer_small index method value word None small = small
+  writer_small index method value word (Some writer) small = form_small writer index method value word writer.form small
 
   keeps_words : KeepsWords (text_acts unit)
   unfolding field_written
   keeps_words = record {
     reset = ltb-true unit.reset.value (2 ^ bits_of unit.word) (both_true (has_bits (bits_of unit.word) unit.reset.value) true parts.1).0;
     start = started_small;
-    put = λ field index method value word small. writer_small method value word (find (λ writer. bytes_eq field writer.name) (writers_of unit)) small;
+    put = λ field index method value word small. writer_small index method value word (writer_named field unit) small;
   }
 
 both_here : (o : Option RegisterAt) {P Q : RegisterAt → Type 0} → IfSome o P → IfSome o Q → ((x : RegisterAt) → P x → Q x → InRange (acts_at x)) → IfSome (option_map acts_at o) InRange
@@ -114,7 +114,7 @@ in_range krate fit range place =
 
 link_small : (acts : Acts) → KeepsWords acts → (names : List Bound) (word : ℕ) (one : Link) → word < 2 ^ bits_of acts.width → link_written acts names word one < 2 ^ bits_of acts.width
 link_small acts keeps names word (link.Bits value) small = mod-lt (number_said (value_of names value)) (some_power (bits_of acts.width))
-link_small acts keeps names word (link.Field field method value) small = keeps.put field None method (argument names value) word small
+link_small acts keeps names word (link.Field field method value) small = keeps.put field.name field.index method (argument names value) word small
 
 chain_small : (acts : Acts) → KeepsWords acts → (names : List Bound) (word : ℕ) (chain : List Link) → word < 2 ^ bits_of acts.width → chain_written acts names word chain < 2 ^ bits_of acts.width
 chain_small acts keeps names word [] small = small

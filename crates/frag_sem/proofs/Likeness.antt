@@ -9,6 +9,7 @@ use Rattle.frag_tree.specs.declared.event.Said.TheVariants.{Number, Truth}
 use Rattle.frag_tree.specs.declared.script.ScriptLine.{ScriptLine}
 use Rattle.frag_tree.specs.declared.statement.Atom.{Atom}
 use Rattle.frag_tree.specs.declared.statement.Atom.TheVariants as atom
+use Rattle.frag_tree.specs.declared.statement.Call.{Call}
 use Rattle.frag_tree.specs.declared.statement.Link.{Link}
 use Rattle.frag_tree.specs.declared.statement.Link.TheVariants as link
 use Rattle.frag_tree.specs.declared.statement.Place.{Place}
@@ -66,11 +67,11 @@ bits_same None (Some y) h = absurd h
 bits_same (Some x) None h = absurd h
 bits_same (Some x) (Some y) h = ap Number h.word
 
-field_same : (field method : List ℕ) (o p : Option Bound) → BothBound o p → field_of_bound field method o ≡ field_of_bound field method p
+field_same : (field : Call) (method : List ℕ) (o p : Option Bound) → BothBound o p → field_of_bound field method o ≡ field_of_bound field method p
 field_same field method None None h = refl
 field_same field method None (Some y) h = absurd h
 field_same field method (Some x) None h = absurd h
-field_same field method (Some x) (Some y) h = h.acts.given field None method x.word h.is_word ∙ ap (y.acts.given field None method) h.word
+field_same field method (Some x) (Some y) h = h.acts.given field.name field.index method x.word h.is_word ∙ ap (y.acts.given field.name field.index method) h.word
 
 source_same : (xs ys : List Bound) → AlikeNames xs ys → (read : Source) → source_value xs read ≡ source_value ys read
 source_same xs ys h (source.Bits reader) = bits_same (bound_as reader xs) (bound_as reader ys) (both_bound reader xs ys h)
@@ -95,11 +96,11 @@ argument_same xs ys h (Some value) = ap number_said (value_same xs ys h value)
 link_same : (one other : Acts) → Alike one other → (xs ys : List Bound) → AlikeNames xs ys → (word : ℕ) → word < 2 ^ bits_of one.width → (l : Link) → link_written one xs word l ≡ link_written other ys word l
 link_same one other alike xs ys h word small (link.Bits value) = ap₂ (λ width said. as_bits (bits_of width) (number_said said)) alike.width (value_same xs ys h value)
 link_same one other alike xs ys h word small (link.Field field method value) =
-    alike.put field None method (argument xs value) word small ∙ ap (λ v. other.put field None method v word) (argument_same xs ys h value)
+    alike.put field.name field.index method (argument xs value) word small ∙ ap (λ v. other.put field.name field.index method v word) (argument_same xs ys h value)
 
 link_small : (one other : Acts) → Alike one other → (xs : List Bound) (word : ℕ) → word < 2 ^ bits_of one.width → (l : Link) → link_written one xs word l < 2 ^ bits_of one.width
 link_small one other alike xs word small (link.Bits value) = mod-lt (number_said (value_of xs value)) (some_power (bits_of one.width))
-link_small one other alike xs word small (link.Field field method value) = alike.puts field None method (argument xs value) word small
+link_small one other alike xs word small (link.Field field method value) = alike.puts field.name field.index method (argument xs value) word small
 
 chain_same : (one other : Acts) → Alike one other → (xs ys : List Bound) → AlikeNames xs ys → (word : ℕ) → word < 2 ^ bits_of one.width → (chain : List Link) → chain_written one xs word chain ≡ chain_written other ys word chain
 chain_same one other alike xs ys h word small [] = refl

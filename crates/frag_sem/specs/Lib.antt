@@ -1,6 +1,7 @@
 pub mod Modules
 pub mod Layout
 pub mod PreludeCalls
+pub mod Spots
 pub mod ProxyTypes
 pub mod CallPlaces
 pub mod CrateTyping

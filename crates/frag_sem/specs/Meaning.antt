@@ -11,6 +11,7 @@ use Rattle.frag_tree.specs.declared.script.Script.{Script}
 use Rattle.frag_tree.specs.declared.script.ScriptLine.{ScriptLine}
 use Rattle.frag_tree.specs.declared.statement.Atom.{Atom}
 use Rattle.frag_tree.specs.declared.statement.Atom.TheVariants as atom
+use Rattle.frag_tree.specs.declared.statement.Call.{Call}
 use Rattle.frag_tree.specs.declared.statement.Link.{Link}
 use Rattle.frag_tree.specs.declared.statement.Link.TheVariants as link
 use Rattle.frag_tree.specs.declared.statement.Place.{Place}
@@ -58,9 +59,9 @@ abbrev pub bits_of_bound : Option Bound → Said
 bits_of_bound None = Number 0
 bits_of_bound (Some bound) = Number bound.word
 
-abbrev pub field_of_bound : List ℕ → List ℕ → Option Bound → Said
+abbrev pub field_of_bound : Call → List ℕ → Option Bound → Said
 field_of_bound field method None = Number 0
-field_of_bound field method (Some bound) = bound.acts.given field None method bound.word
+field_of_bound field method (Some bound) = bound.acts.given field.name field.index method bound.word
 
 abbrev pub source_value : List Bound → Source → Said
 source_value names (source.Bits reader) = bits_of_bound (bound_as reader names)
@@ -95,7 +96,7 @@ argument names (Some value) = number_said (value_of names value)
 -- one link of a chain: `bits` of the writer makes the word its value
 abbrev pub link_written : Acts → List Bound → ℕ → Link → ℕ
 link_written acts names word (link.Bits value) = as_bits (bits_of acts.width) (number_said (value_of names value))
-link_written acts names word (link.Field field method value) = acts.put field None method (argument names value) word
+link_written acts names word (link.Field field method value) = acts.put field.name field.index method (argument names value) word
 
 -- a chain, link by link
 abbrev pub chain_written : Acts → List Bound → ℕ → List Link → ℕ

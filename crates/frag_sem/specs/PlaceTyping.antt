@@ -3,7 +3,7 @@ use Rattle.std.specs.Prelude.{ℕ, Bool, List, [], ◌∷◌, Option, None, Ok, 
 use Rattle.frag_tree.specs.declared.access.Access.{Access}
 use Rattle.frag_tree.specs.declared.register.RegisterModule.{RegisterModule}
 use Rattle.frag_tree.specs.declared.statement.Place.{Place}
-use Rattle.frag_tree.specs.declared.statement.PlaceStep.{PlaceStep}
+use Rattle.frag_tree.specs.declared.statement.Call.{Call}
 use Rattle.frag_tree.specs.Trees.{BlockTree, CrateTree, ModuleTree, one_register, one_block}
 use Rattle.frag_sem.specs.CallPlaces.{access_named, count_of, slot_named}
 use Rattle.frag_sem.specs.Modules.{module_of, top_block}
@@ -24,7 +24,7 @@ inner_named (one_register unit) name = None
 inner_named (one_block unit) name = option_and_then (inner_of unit) (access_named name unit.head.accessors)
 
 -- the module at the end of accessors
-unfoldable pub steps_lead : ModuleTree → List PlaceStep → Typed ModuleTree
+unfoldable pub steps_lead : ModuleTree → List Call → Typed ModuleTree
 steps_lead unit [] = Ok unit
 steps_lead unit (step ∷ steps) = do
   inner ← ok_or (inner_named unit step.name) no_such_call

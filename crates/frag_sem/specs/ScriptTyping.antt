@@ -12,7 +12,7 @@ use Rattle.frag_tree.specs.declared.statement.Atom.TheVariants as atom
 use Rattle.frag_tree.specs.declared.statement.Link.{Link}
 use Rattle.frag_tree.specs.declared.statement.Link.TheVariants as link
 use Rattle.frag_tree.specs.declared.statement.Place.{Place}
-use Rattle.frag_tree.specs.declared.statement.PlaceStep.{PlaceStep}
+use Rattle.frag_tree.specs.declared.statement.Call.{Call}
 use Rattle.frag_tree.specs.declared.statement.Source.{Source}
 use Rattle.frag_tree.specs.declared.statement.Source.TheVariants as source
 use Rattle.frag_tree.specs.declared.statement.Statement.{Statement}
@@ -78,7 +78,7 @@ without_step name register (step ∷ others) = if bytes_eq name step.name then S
 abbrev pub behind : List ℕ → List Below → List Below
 behind name entries = filter_map (λ below. without_step name below.register below.steps) entries
 
--- An accessor takes an index just where it has a count; and the index, which stands behind its name, is below that.
+-- An accessor or a field takes an index just where it has a count; and the index, which stands behind its name, is below that.
 abbrev pub index_types : Option ℕ → Option ℕ → Typed (Unit {0})
 index_types None None = Ok tt
 index_types None (Some index) = Err wrong_type
@@ -86,7 +86,7 @@ index_types (Some count) None = Err wrong_type
 index_types (Some count) (Some index) = holds_or index_range (nat_lt index count)
 
 -- what stands at the end of accessors
-unfoldable pub steps_type : List Below → List PlaceStep → Typed (List Below)
+unfoldable pub steps_type : List Below → List Call → Typed (List Below)
 steps_type entries [] = Ok entries
 steps_type entries (step ∷ steps) = do
   found ← ok_or (step_named step.name entries) no_such_call
@@ -143,9 +143,11 @@ literal_types anything value = literal_fits W64 value
 literal_types (just (number width)) value = literal_fits width value
 literal_types (just truth) value = Err wrong_type
 
-abbrev pub read_call : RegisterCalls → List ℕ → List ℕ → Typed ReadCall
+-- a method of a field that can be read
+abbrev pub read_call : RegisterCalls → Call → List ℕ → Typed ReadCall
 read_call register field method = do
-  found ← ok_or (find (λ reader. bytes_eq field reader.name) register.readers) no_such_call
+  found ← ok_or (find (λ reader. bytes_eq field.name reader.name) register.readers) no_such_call
+  _ ← index_types found.count field.index
   ok_or (find (λ call. bytes_eq method call.name) found.calls) no_such_call
 
 -- the type of what a bound name gives
@@ -188,9 +190,11 @@ argument_types names None (Some value) = Err wrong_type
 argument_types names (Some type) None = Err wrong_type
 argument_types names (Some type) (Some value) = value_types names (just type) value
 
-abbrev pub write_call : RegisterCalls → List ℕ → List ℕ → Typed WriteCall
+-- a method of a field that can be written
+abbrev pub write_call : RegisterCalls → Call → List ℕ → Typed WriteCall
 write_call register field method = do
-  found ← ok_or (find (λ writer. bytes_eq field writer.name) register.writers) no_such_call
+  found ← ok_or (find (λ writer. bytes_eq field.name writer.name) register.writers) no_such_call
+  _ ← index_types found.count field.index
   ok_or (find (λ call. bytes_eq method call.name) found.calls) no_such_call
 
 -- the whole word is a number of the register's width

@@ -20,6 +20,7 @@ use Rattle.frag_sem.specs.CallPlaces.{RegisterAt, register_at}
 use Rattle.frag_sem.specs.PreludeCalls.{bit_tests, bit_writes}
 use Rattle.frag_sem.specs.PreludeWords.{as_bits, bit_of, is_set, same_truth, start_word, taken, written}
 use Rattle.frag_sem.specs.ProxyTypes.{numbers_on, reader_type, readers_of, truths_on, writer_type, writers_of}
+use Rattle.frag_sem.specs.Spots.{spot_at}
 use Rattle.frag_sem.specs.Meaning.{Acts, ActsAt, Places, meaning}
 use Rattle.frag_sem.specs.Presets.{Preset, presets}
 
@@ -36,31 +37,35 @@ abbrev pub compared_number : ℕ → Option NumberCall → Said
 compared_number value None = Number 0
 compared_number value (Some call) = Truth (value == call.value)
 
--- what the calls of a bit's reader give: `bit` the truth, the others whether it is what they stand for
+-- What the calls of a bit's reader give: `bit` the truth, the others whether it is what they stand for.
 abbrev pub bit_given : List TruthCall → List ℕ → Bool → Said
 bit_given calls method bit = if bytes_eq method (codes "bit") then Truth bit else compared_truth bit (find (λ call. bytes_eq method call.name) (bit_tests ++ calls))
 
--- what the calls of a field's reader give: `bits` the number, the others whether it is what they stand for
+-- What the calls of a field's reader give: `bits` the number, the others whether it is what they stand for.
 abbrev pub bits_given : List NumberCall → List ℕ → ℕ → Said
 bits_given calls method value = if bytes_eq method (codes "bits") then Number value else compared_number value (find (λ call. bytes_eq method call.name) calls)
 
--- a reader is its shift, mask and cast
-abbrev pub form_given : RegisterModule → Reader → List ℕ → ℕ → ReadForm → Said
-form_given unit reader method word (read.Bit shift mask) = bit_given (truths_on (reader_type reader) unit.values) method (is_set (taken word shift mask))
-form_given unit reader method word (read.Field width shift mask) =
-    bits_given (numbers_on (reader_type reader) unit.values) method (as_bits (bits_of width) (taken word shift mask))
+-- a reader is its shift by the spot, its mask and its cast
+abbrev pub form_given : RegisterModule → Reader → Option ℕ → List ℕ → ℕ → ReadForm → Said
+form_given unit reader index method word (read.Bit spot mask) = bit_given (truths_on (reader_type reader) unit.values) method (is_set (taken word (spot_at spot index) mask))
+form_given unit reader index method word (read.Field width spot mask) =
+    bits_given (numbers_on (reader_type reader) unit.values) method (as_bits (bits_of width) (taken word (spot_at spot index) mask))
 
-abbrev pub reader_given : RegisterModule → List ℕ → ℕ → Option Reader → Said
-reader_given unit method word None = Number 0
-reader_given unit method word (Some reader) = form_given unit reader method word reader.form
+abbrev pub reader_given : RegisterModule → Option ℕ → List ℕ → ℕ → Option Reader → Said
+reader_given unit index method word None = Number 0
+reader_given unit index method word (Some reader) = form_given unit reader index method word reader.form
+
+-- the call that reads a field
+abbrev pub reader_named : List ℕ → RegisterModule → Option Reader
+reader_named name unit = find (λ reader. bytes_eq name reader.name) (readers_of unit)
 
 -- what a method of a field gives of a word that was read
 unfoldable pub field_given : RegisterModule → List ℕ → Option ℕ → List ℕ → ℕ → Said
-field_given unit field index method word = reader_given unit method word (find (λ reader. bytes_eq field reader.name) (readers_of unit))
+field_given unit field index method word = reader_given unit index method word (reader_named field unit)
 
 -- ---- what is written
 
--- what a call writes: what it stands for, or else its value
+-- what a call writes that stands for something
 abbrev pub truth_or : Option TruthCall → ℕ → ℕ
 truth_or None value = value
 truth_or (Some call) value = bit_of call.value
@@ -69,20 +74,32 @@ abbrev pub number_or : Option NumberCall → ℕ → ℕ
 number_or None value = value
 number_or (Some call) value = call.value
 
--- a writer of N-bit words is the prelude's formula, of one bit or of its width at its offset
-abbrev pub form_written : RegisterModule → Writer → List ℕ → ℕ → ℕ → WriteForm → ℕ
-form_written unit writer method value word (write.Bit kind offset) =
-    written (bits_of unit.word) word offset 1 (truth_or (find (λ call. bytes_eq method call.name) (bit_writes kind ++ truths_on (writer_type writer) unit.values)) value)
-form_written unit writer method value word (write.Field width bits offset) =
-    written (bits_of unit.word) word offset bits (number_or (find (λ call. bytes_eq method call.name) (numbers_on (writer_type writer) unit.values)) value)
+-- What the calls of a bit's writer write: `bit` its value, the others what they stand for.
+abbrev pub bit_put : List TruthCall → List ℕ → ℕ → ℕ
+bit_put calls method value = if bytes_eq method (codes "bit") then value else truth_or (find (λ call. bytes_eq method call.name) calls) value
 
-abbrev pub writer_written : RegisterModule → List ℕ → ℕ → ℕ → Option Writer → ℕ
-writer_written unit method value word None = word
-writer_written unit method value word (Some writer) = form_written unit writer method value word writer.form
+-- What the calls of a field's writer write: `bits` its value, the others what they stand for.
+abbrev pub bits_put : List NumberCall → List ℕ → ℕ → ℕ
+bits_put calls method value = if bytes_eq method (codes "bits") then value else number_or (find (λ call. bytes_eq method call.name) calls) value
+
+-- a writer of N-bit words is the prelude's formula, of one bit or of its width at the spot
+abbrev pub form_written : RegisterModule → Writer → Option ℕ → List ℕ → ℕ → ℕ → WriteForm → ℕ
+form_written unit writer index method value word (write.Bit kind spot) =
+    written (bits_of unit.word) word (spot_at spot index) 1 (bit_put (bit_writes kind ++ truths_on (writer_type writer) unit.values) method value)
+form_written unit writer index method value word (write.Field width bits spot) =
+    written (bits_of unit.word) word (spot_at spot index) bits (bits_put (numbers_on (writer_type writer) unit.values) method value)
+
+abbrev pub writer_written : RegisterModule → Option ℕ → List ℕ → ℕ → ℕ → Option Writer → ℕ
+writer_written unit index method value word None = word
+writer_written unit index method value word (Some writer) = form_written unit writer index method value word writer.form
+
+-- the call that writes a field
+abbrev pub writer_named : List ℕ → RegisterModule → Option Writer
+writer_named name unit = find (λ writer. bytes_eq name writer.name) (writers_of unit)
 
 -- what a method of a field makes of a word, where the method may take a value
 unfoldable pub field_written : RegisterModule → List ℕ → Option ℕ → List ℕ → ℕ → ℕ → ℕ
-field_written unit field index method value word = writer_written unit method value word (find (λ writer. bytes_eq field writer.name) (writers_of unit))
+field_written unit field index method value word = writer_written unit index method value word (writer_named field unit)
 
 -- the two masks of a register module, 0 where it isn't `Writable`
 abbrev pub one_to_modify : RegisterModule → ℕ
