@@ -8,3 +8,5 @@ pub mod Rules
 pub mod Events
 pub mod Walking
 pub mod Likeness
+pub mod PlacesFound
+pub mod MeansOne

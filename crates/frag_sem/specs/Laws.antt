@@ -20,11 +20,12 @@ use Rattle.frag_sem.specs.Layout.{Extents, end_of, place_named, placed, type_ext
 use Rattle.frag_sem.specs.CallPlaces.{register_at}
 use Rattle.frag_sem.specs.Modules.{all_registers}
 use Rattle.frag_sem.specs.PlaceTyping.{call_leads}
-use Rattle.frag_sem.specs.ScriptTyping.{◌>>=◌, call_types}
+use Rattle.frag_sem.specs.ScriptTyping.{◌>>=◌, call_types, script_fault}
 use Rattle.frag_sem.specs.Surfaces.{RegisterCalls}
 use Rattle.frag_sem.specs.TextSurface.{register_calls, text_surface}
 use Rattle.frag_sem.specs.Likeness.{AlikePlaces}
 use Rattle.frag_sem.specs.Meaning.{Places, meaning, next_answer}
+use Rattle.frag_sem.specs.Means.{Means}
 use Rattle.frag_sem.specs.Presets.{presets}
 use Rattle.frag_sem.specs.TextMeaning.{text_meaning, text_presets}
 use Rattle.frag_sem.specs.PreludeWords.{as_bits, bit_of, is_set, ones, start_word, taken, written}
@@ -160,6 +161,16 @@ EventsAreFew = (krate : CrateTree) (script : Script) (answers : List ℕ) → le
 abbrev pub PlacesAreRegisters : Type 0
 PlacesAreRegisters =
     (test : RegisterModule → Bool) (krate : CrateTree) → list_all test (all_registers krate) ≡ true → (place : Place) → IfSome (register_at krate place) (λ found. test found.register ≡ true)
+
+-- ---- what is meant with nothing missing
+
+-- Whatever events a script has with nothing missing on the way are its meaning: so they are one list at most.
+abbrev pub MeansOne : Type 0
+MeansOne = (krate : CrateTree) (script : Script) (answers : List ℕ) (events : List Event) → Means krate script answers events → events ≡ text_meaning krate script answers
+
+-- A script that fits a crate that fits has its meaning with nothing missing on the way, whatever the answers are.
+abbrev pub FittingMeans : Type 0
+FittingMeans = (krate : CrateTree) → CrateFits krate → (script : Script) → script_fault (text_surface krate) script ≡ None → (answers : List ℕ) → Means krate script answers (text_meaning krate script answers)
 
 -- ---- likeness
 

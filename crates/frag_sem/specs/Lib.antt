@@ -15,5 +15,7 @@ pub mod Meaning
 pub mod Presets
 pub mod Likeness
 pub mod TextMeaning
+pub mod PlaceIs
+pub mod Means
 pub mod Worked
 pub mod Laws
