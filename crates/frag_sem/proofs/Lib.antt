@@ -6,7 +6,11 @@ pub mod Chains
 pub mod Attained
 pub mod Rules
 pub mod Events
+pub mod Typings
 pub mod Walking
 pub mod Likeness
 pub mod PlacesFound
 pub mod MeansOne
+pub mod FittingPlaces
+pub mod FittingValues
+pub mod Fitting

@@ -20,7 +20,8 @@ body_is unit access (body.Field field) (Some index) offset at = absurd at
 body_is unit access (body.Member field) None offset at = absurd at
 body_is unit access (body.Member field) (Some index) offset at = (
   ap (λ o. admits (option_and_then (λ found. type_count found.holds) o) (Some index)) at.array.named ∙ (ap (λ type. admits (type_count type) (Some index)) at.array.type_is ∙ lt-ltb index at.count at.below),
-  at.offset_is ∙ ap₂ (λ (p : Option ℕ) (e : Option Extent). unwrap_or p 0 + index * (extent_or_none e).size) (sym at.array.place_is) (sym at.extent_is))
+  at.offset_is ∙ ap₂ (λ (p : Option ℕ) (e : Option Extent). unwrap_or p 0 + index * (extent_or_none e).size) (sym at.array.place_is) (sym at.extent_is),
+)
 body_is unit access (body.At start) None offset at = (refl, at)
 body_is unit access (body.At start) (Some index) offset at = absurd at
 body_is unit access (body.AtIndex start stride count) None offset at = absurd at

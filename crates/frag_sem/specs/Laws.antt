@@ -25,8 +25,8 @@ use Rattle.frag_sem.specs.Surfaces.{RegisterCalls}
 use Rattle.frag_sem.specs.TextSurface.{register_calls, text_surface}
 use Rattle.frag_sem.specs.Likeness.{AlikePlaces}
 use Rattle.frag_sem.specs.Meaning.{Places, meaning, next_answer}
-use Rattle.frag_sem.specs.Means.{Means}
-use Rattle.frag_sem.specs.Presets.{presets}
+use Rattle.frag_sem.specs.Means.{Means, PresetsAre}
+use Rattle.frag_sem.specs.Presets.{called_places, presets}
 use Rattle.frag_sem.specs.TextMeaning.{text_meaning, text_presets}
 use Rattle.frag_sem.specs.PreludeWords.{as_bits, bit_of, is_set, ones, start_word, taken, written}
 
@@ -171,6 +171,10 @@ MeansOne = (krate : CrateTree) (script : Script) (answers : List ℕ) (events : 
 -- A script that fits a crate that fits has its meaning with nothing missing on the way, whatever the answers are.
 abbrev pub FittingMeans : Type 0
 FittingMeans = (krate : CrateTree) → CrateFits krate → (script : Script) → script_fault (text_surface krate) script ≡ None → (answers : List ℕ) → Means krate script answers (text_meaning krate script answers)
+
+-- At each place that it calls stands a register, and that has its preset.
+abbrev pub FittingPresets : Type 0
+FittingPresets = (krate : CrateTree) → CrateFits krate → (script : Script) → script_fault (text_surface krate) script ≡ None → PresetsAre krate (called_places script) (text_presets krate script)
 
 -- ---- likeness
 

@@ -36,6 +36,7 @@ use Rattle.frag_tree.specs.Trees.{CrateTree}
 use Rattle.frag_sem.specs.CallPlaces.{RegisterAt}
 use Rattle.frag_sem.specs.Meaning.{next_answer}
 use Rattle.frag_sem.specs.PlaceIs.{PlaceIs}
+use Rattle.frag_sem.specs.Presets.{Preset}
 use Rattle.frag_sem.specs.PreludeCalls.{bit_tests, bit_writes}
 use Rattle.frag_sem.specs.PreludeWords.{as_bits, bit_of, is_set, same_truth, start_word, taken, written}
 use Rattle.frag_sem.specs.ProxyTypes.{numbers_on, reader_type, truths_on, writer_type}
@@ -254,3 +255,18 @@ LinesMean krate (line ∷ lines) known events = Then (StatementMeans krate known
 -- A script has these events against a crate, where the k-th read has the k-th answer.
 unfoldable pub Means : CrateTree → Script → List ℕ → List Event → Type 0
 Means krate script answers events = LinesMean krate script.lines (record { answers = answers; names = [] }) events
+
+-- ---- presets
+
+-- a place that is called has the preset of the register that stands there, and so have the others
+pub record PresetThen (krate : CrateTree) (place : Place) (rest : List Preset → Type 0) (presets : List Preset) : Type 0 where
+  pub found : RegisterAt
+  pub place_is : PlaceIs krate place found
+  pub others : List Preset
+  pub presets_are : presets ≡ record { address = found.address; width = found.register.word; value = found.register.reset.value } ∷ others
+  pub others_are : rest others
+
+-- one preset for each place
+unfoldable pub PresetsAre : CrateTree → List Place → List Preset → Type 0
+PresetsAre krate [] presets = presets ≡ []
+PresetsAre krate (place ∷ places) presets = PresetThen krate place (PresetsAre krate places) presets

@@ -1,5 +1,5 @@
 // The laws of layouts and of the words that readers and writers make.
-ghost use Rattle.frag_sem.specs.Laws.{AlikeMean, AlikePreset, BitReaderGets, CallsAreThere, CallsByModules, EndsDecide, EventsAreFew, EventsInRange, FieldsAligned, FieldsApart, FitsByTests, PlaceBehindEnd, PlaceBehindGap, PlacesAreRegisters, PresetsInRange, ReaderGets, ReadsAreAnswered, ReadsWritten, RefusedByTests, StartWithoutMasks, StartWordIsStart, WriterPuts, WrittenStays};
+ghost use Rattle.frag_sem.specs.Laws.{AlikeMean, AlikePreset, BitReaderGets, CallsAreThere, CallsByModules, EndsDecide, EventsAreFew, EventsInRange, FieldsAligned, FieldsApart, FitsByTests, FittingMeans, FittingPresets, MeansOne, PlaceBehindEnd, PlaceBehindGap, PlacesAreRegisters, PresetsInRange, ReaderGets, ReadsAreAnswered, ReadsWritten, RefusedByTests, StartWithoutMasks, StartWordIsStart, WriterPuts, WrittenStays};
 
 /// Where the fields of a struct stand: behind a gap that ends at a multiple of the alignment, there; and
 /// no two of them share a byte.
@@ -42,6 +42,14 @@ pub fn meaning_law()
     ensures events { EventsInRange }
     ensures few { EventsAreFew }
     ensures presets { PresetsInRange }
+{}
+
+/// A script that fits a crate that fits is meant in each of its parts: its events are those of a relation
+/// that has no case for what isn't there, which gives one list at most.
+pub fn fitting_law()
+    ensures means { FittingMeans }
+    ensures one { MeansOne }
+    ensures presets { FittingPresets }
 {}
 
 /// A script means the same, and has the same presets, wherever alike registers stand at each place: what a
