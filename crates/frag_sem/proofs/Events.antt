@@ -22,16 +22,17 @@ use Rattle.frag_tree.specs.declared.statement.Statement.TheVariants as statement
 use Rattle.frag_tree.specs.Trees.{BlockTree, CrateTree, ModuleTree, one_block}
 use Rattle.frag_sem.specs.CallPlaces.{RegisterAt, from_slot, leads, register_at, slot_named}
 use Rattle.frag_sem.specs.CrateTyping.{AddressRange, Constants, constants_fit, constants_of, has_bits, masks_of}
-use Rattle.frag_sem.specs.Laws.{AccessInRange, AreAnswered, EventInRange, EventsAreFew, EventsInRange, PlacesAreRegisters, PresetsInRange, ReadsAreAnswered}
+use Rattle.frag_sem.specs.Laws.{AccessInRange, AreAnswered, EventInRange, EventsAreFew, EventsInRange, PlacesAreRegisters, PresetsInRange, ReadsAreAnswered, VersionKeeps}
 use Rattle.frag_sem.specs.Modules.{all_registers, registers_in, top_block}
 use Rattle.frag_sem.specs.PreludeWords.{complement, start_word}
 use Rattle.frag_sem.specs.Spots.{spot_at}
 use Rattle.frag_sem.specs.Meaning.{Acts, ActsAt, Bound, Outcome, Places, Standing, answer_for, argument, at_place, chain_written, events_then, let_outcome, lines_meaning, link_written, meaning, modify_outcome, names_within, next_answer, number_said, outcome_of, reset_outcome, value_of, write_outcome}
 use Rattle.frag_sem.specs.Presets.{Preset, called_places, preset_of, presets}
 use Rattle.frag_sem.specs.TextMeaning.{acts_at, field_written, form_written, one_to_modify, started, text_acts, text_at, text_meaning, text_presets, writer_named, writer_written, zero_to_modify}
+use Rattle.frag_sem.specs.TextSurface.{text_surface}
 use Rattle.frag_sem.proofs.Leading.{inside_has, leads_keeps, registers_at, registers_gather}
 use Rattle.frag_sem.proofs.Lists.{all_both, both_true, found_parts}
-use Rattle.frag_sem.proofs.Words.{some_power, written_small}
+use Rattle.frag_sem.proofs.Words.{answer_small, some_power, start_small, written_small}
 
 -- ---- the register of a place is one of the crate's
 
@@ -77,11 +78,7 @@ module _ (unit : RegisterModule) (constants : list_all (λ constant. has_bits (b
   mask_small (Some masks) all = ltb-true masks.zero_to_modify.value (2 ^ bits_of unit.word) (both_true (has_bits (bits_of unit.word) masks.zero_to_modify.value) (list_all (λ constant. has_bits (bits_of unit.word) constant.value) (masks.one_to_modify ∷ [])) all).0
 
   started_small : (base : ℕ) → base < 2 ^ bits_of unit.word → started unit base < 2 ^ bits_of unit.word
-  unfolding start_word
-  started_small base small =
-      let kept = bit_and base (complement (bits_of unit.word) (one_to_modify unit)) in
-      let below : kept ≤ base = and_le_l base (complement (bits_of unit.word) (one_to_modify unit)) in
-      or_lt (bits_of unit.word) kept (zero_to_modify unit) (omega arith) (mask_small unit.writable parts.0)
+  started_small base small = start_small (bits_of unit.word) base (one_to_modify unit) (zero_to_modify unit) small (mask_small unit.writable parts.0)
 
   form_small : (writer : Writer) (index : Option ℕ) (method : List ℕ) (value word : ℕ) (form : WriteForm) → word < 2 ^ bits_of unit.word → form_written unit writer index method value word form < 2 ^ bits_of unit.word
   form_small writer index method value word (write.Bit kind spot) small = written_small (bits_of unit.word) word (spot_at spot index) 1 _ small
@@ -119,10 +116,6 @@ link_small acts keeps names word (link.Field field method value) small = keeps.p
 chain_small : (acts : Acts) → KeepsWords acts → (names : List Bound) (word : ℕ) (chain : List Link) → word < 2 ^ bits_of acts.width → chain_written acts names word chain < 2 ^ bits_of acts.width
 chain_small acts keeps names word [] small = small
 chain_small acts keeps names word (first ∷ others) small = chain_small acts keeps names (link_written acts names word first) others (link_small acts keeps names word first small)
-
-answer_small : (bits : ℕ) (answers : List ℕ) → next_answer bits answers < 2 ^ bits
-answer_small bits [] = some_power bits
-answer_small bits (first ∷ others) = mod-lt first (some_power bits)
 
 -- ---- events
 
@@ -212,6 +205,12 @@ lines_answered places (first ∷ others) standing = outcome_answered places stan
 pub reads_are_answered : ReadsAreAnswered
 unfolding text_meaning meaning
 reads_are_answered krate script answers = lines_answered (text_at krate) script.lines (record { answers = answers; names = [] })
+
+-- ---- versions
+
+pub version_keeps : VersionKeeps
+unfolding text_surface text_meaning text_presets register_at
+version_keeps krate version = (refl, (λ script answers. refl, λ script. refl))
 
 -- ---- how many
 

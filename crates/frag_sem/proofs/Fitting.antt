@@ -31,12 +31,7 @@ use Rattle.frag_sem.proofs.Lists.{both_true}
 use Rattle.frag_sem.proofs.PlacesFound.{place_found}
 use Rattle.frag_sem.proofs.MeansOne.{means_one}
 use Rattle.frag_sem.proofs.Typings.{both_ok, same_ok}
-use Rattle.frag_sem.proofs.Words.{some_power}
-
--- an answer is a word of the register
-answer_is_word : (bits : ℕ) (answers : List ℕ) → next_answer bits answers < 2 ^ bits
-answer_is_word bits [] = some_power bits
-answer_is_word bits (first ∷ others) = mod-lt first (some_power bits)
+use Rattle.frag_sem.proofs.Words.{answer_small}
 
 -- the names within the chain of a `modify`, by their types and by their words
 within_typed : (names_reader : Bool) (found : RegisterAt) (known : Known) → names_within (map typed_held known.names) (register_calls found.register) names_reader ≡ map typed_held (held_within names_reader found known)
@@ -44,7 +39,7 @@ within_typed true found known = refl
 within_typed false found known = refl
 
 within_words : (names_reader : Bool) (found : RegisterAt) (known : Known) → AreWords known.names → AreWords (held_within names_reader found known)
-within_words true found known words = (answer_is_word (bits_of found.register.word) known.answers, words)
+within_words true found known words = (answer_small (bits_of found.register.word) known.answers, words)
 within_words false found known words = words
 
 -- a register that can be written has its masks
@@ -100,7 +95,7 @@ module _ (krate : CrateTree) (fits : CrateFits krate) (known : Known) (words : A
         events = reading found known ∷ [];
         after = record { answers = drop 1 known.answers; names = holding name found known ∷ known.names };
         means = record { found = found; at = record { place_is = there.place_is; readable = there.has }; events_are = refl; after_is = refl };
-        words = (answer_is_word (bits_of there.unit.word) known.answers, words);
+        words = (answer_small (bits_of there.unit.word) known.answers, words);
         names_are = sym (same_ok _ typed called.2) ∙ ap (λ c. (name, c) ∷ map typed_held known.names) (sym there.calls_are);
       }
 

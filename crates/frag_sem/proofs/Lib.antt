@@ -4,6 +4,7 @@ pub mod Lists
 pub mod Leading
 pub mod Chains
 pub mod Attained
+pub mod CutEnds
 pub mod Rules
 pub mod Events
 pub mod Typings

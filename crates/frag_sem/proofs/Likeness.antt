@@ -21,7 +21,7 @@ use Rattle.frag_tree.specs.declared.statement.Value.{Value}
 use Rattle.frag_sem.specs.PreludeWords.{as_bits}
 use Rattle.frag_sem.specs.ScriptTyping.{reader_name}
 use Rattle.frag_sem.specs.Presets.{Preset, called_places, preset_of, presets}
-use Rattle.frag_sem.proofs.Words.{some_power}
+use Rattle.frag_sem.proofs.Words.{answer_small, some_power}
 use Rattle.frag_sem.specs.Laws.{AlikeMean, AlikePreset}
 use Rattle.frag_sem.specs.Likeness.{Alike, AlikePlaces, BothAlike, SamePlace}
 use Rattle.frag_sem.specs.Meaning.{Acts, ActsAt, Bound, Outcome, Places, Standing, answer_for, argument, at_place, atom_value, bits_of_bound, bound_as, chain_written, events_then, field_of_bound, let_outcome, lines_meaning, link_written, meaning, modify_outcome, names_within, negated, next_answer, number_said, outcome_of, reset_outcome, source_value, value_of, write_outcome}
@@ -124,10 +124,6 @@ at_same None None h s t st f g each = record { events = refl; after = st }
 at_same None (Some y) h s t st f g each = absurd h
 at_same (Some x) None h s t st f g each = absurd h
 at_same (Some x) (Some y) h s t st f g each = each x y h
-
-answer_small : (bits : ℕ) (answers : List ℕ) → next_answer bits answers < 2 ^ bits
-answer_small bits [] = some_power bits
-answer_small bits (first ∷ others) = mod-lt first (some_power bits)
 
 module _ (x y : ActsAt) (same : SamePlace x y) (s t : Standing) (st : AlikeStanding s t) where
   answer_same : answer_for x s ≡ answer_for y t

@@ -1,5 +1,5 @@
 // The laws of layouts and of the words that readers and writers make.
-ghost use Rattle.frag_sem.specs.Laws.{AlikeMean, AlikePreset, BitReaderGets, CallsAreThere, CallsByModules, EndsDecide, EventsAreFew, EventsInRange, FieldsAligned, FieldsApart, FitsByTests, FittingMeans, FittingPresets, MeansOne, PlaceBehindEnd, PlaceBehindGap, PlacesAreRegisters, PresetsInRange, ReaderGets, ReadsAreAnswered, ReadsWritten, RefusedByTests, StartWithoutMasks, StartWordIsStart, WriterPuts, WrittenStays};
+ghost use Rattle.frag_sem.specs.Laws.{AlikeMean, AlikePreset, BitReaderGets, CallsAreThere, CallsByModules, CutEndsDecide, EndsDecide, EndsGrow, EventsAreFew, EventsInRange, FieldsAligned, FieldsApart, FitsByTests, FittingMeans, FittingPresets, MeansOne, PlaceBehindEnd, PlaceBehindGap, PlacesAreRegisters, PresetsInRange, ReaderGets, ReadsAreAnswered, ReadsWritten, RefusedByTests, SizeReaches, SlotsByName, StartStays, StartWithoutMasks, StartWordIsStart, VersionKeeps, WriterPuts, WrittenStays};
 
 /// Where the fields of a struct stand: behind a gap that ends at a multiple of the alignment, there; and
 /// no two of them share a byte.
@@ -8,6 +8,8 @@ pub fn layout_law()
     ensures behind_end { PlaceBehindEnd }
     ensures apart { FieldsApart }
     ensures aligned { FieldsAligned }
+    ensures grows { EndsGrow }
+    ensures size { SizeReaches }
 {}
 
 /// A reader of a crate text gives what stands at its place.
@@ -23,6 +25,7 @@ pub fn writer_law()
     ensures stays { WrittenStays }
     ensures reads { ReadsWritten }
     ensures start { StartWordIsStart }
+    ensures start_stays { StartStays }
     ensures without_masks { StartWithoutMasks }
 {}
 
@@ -32,6 +35,7 @@ pub fn typing_law()
     ensures fits { FitsByTests }
     ensures refused { RefusedByTests }
     ensures ends { EndsDecide }
+    ensures cut_ends { CutEndsDecide }
 {}
 
 /// Each read of a script has the next answer. The events of a script and the presets before it are accesses
@@ -42,6 +46,7 @@ pub fn meaning_law()
     ensures events { EventsInRange }
     ensures few { EventsAreFew }
     ensures presets { PresetsInRange }
+    ensures version { VersionKeeps }
 {}
 
 /// A script that fits a crate that fits is meant in each of its parts: its events are those of a relation
@@ -64,4 +69,5 @@ pub fn likeness_law()
 pub fn surface_law()
     ensures modules { CallsByModules }
     ensures there { CallsAreThere }
+    ensures slots { SlotsByName }
 {}
