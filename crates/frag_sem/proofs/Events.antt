@@ -1,9 +1,8 @@
 -- The events of a script: what each access is, and how many there are.
-use Rattle.std.proofs.Common.{ℕ, ◌≡◌, ◌+◌, ◌*◌, ◌/◌, ◌^◌, ◌<◌, ◌≤◌, Bool, true, List, [], ◌∷◌, ◌++◌, length, Option, Some, None, IfSome, option_map, option_and_then, find, filter_map, bytes_eq, bit_and, refl, arith, mod-lt, length-append}
+use Rattle.std.proofs.Common.{ℕ, ◌≡◌, ◌+◌, ◌*◌, ◌/◌, ◌^◌, ◌<◌, ◌≤◌, Bool, true, List, [], ◌∷◌, ◌++◌, length, Option, Some, None, IfSome, option_map, option_and_then, filter_map, bytes_eq, refl, arith, mod-lt, length-append}
 use Rattle.std.specs.Prelude.{unwrap_or}
 use Rattle.std.specs.List.{list_all, AllByRecursion, cons_option}
 use Rattle.std.proofs.lemmas.Bool.{ltb-true}
-use Rattle.std.proofs.lemmas.Nat.{and_le_l, or_lt}
 use Rattle.pac_base.specs.Widths.{bits_of}
 use Rattle.frag_tree.specs.declared.event.Event.{Event}
 use Rattle.frag_tree.specs.declared.krate.Slot.{Slot}
@@ -24,9 +23,8 @@ use Rattle.frag_sem.specs.CallPlaces.{RegisterAt, from_slot, leads, register_at,
 use Rattle.frag_sem.specs.CrateTyping.{AddressRange, Constants, constants_fit, constants_of, has_bits, masks_of}
 use Rattle.frag_sem.specs.Laws.{AccessInRange, AreAnswered, EventInRange, EventsAreFew, EventsInRange, PlacesAreRegisters, PresetsInRange, ReadsAreAnswered, VersionKeeps}
 use Rattle.frag_sem.specs.Modules.{all_registers, registers_in, top_block}
-use Rattle.frag_sem.specs.PreludeWords.{complement, start_word}
 use Rattle.frag_sem.specs.Spots.{spot_at}
-use Rattle.frag_sem.specs.Meaning.{Acts, ActsAt, Bound, Outcome, Places, Standing, answer_for, argument, at_place, chain_written, events_then, let_outcome, lines_meaning, link_written, meaning, modify_outcome, names_within, next_answer, number_said, outcome_of, reset_outcome, value_of, write_outcome}
+use Rattle.frag_sem.specs.Meaning.{Acts, ActsAt, Bound, Outcome, Places, Standing, answer_for, argument, at_place, chain_written, events_then, let_outcome, lines_meaning, link_written, meaning, modify_outcome, names_within, number_said, outcome_of, reset_outcome, value_of, write_outcome}
 use Rattle.frag_sem.specs.Presets.{Preset, called_places, preset_of, presets}
 use Rattle.frag_sem.specs.TextMeaning.{acts_at, field_written, form_written, one_to_modify, started, text_acts, text_at, text_meaning, text_presets, writer_named, writer_written, zero_to_modify}
 use Rattle.frag_sem.specs.TextSurface.{text_surface}

@@ -1,5 +1,5 @@
 -- A script that fits has its meaning with nothing missing.
-use Rattle.std.proofs.Common.{ℕ, ◌≡◌, ◌&&◌, ◌^◌, ◌<◌, Bool, true, false, List, [], ◌∷◌, ◌++◌, map, drop, filter, filter_map, cond, not, option_map, IfSome, Option, Some, None, Ok, Err, is_some, refl, sym, ap, subst, ◌∙◌, mod-lt}
+use Rattle.std.proofs.Common.{ℕ, ◌≡◌, Bool, true, false, List, [], ◌∷◌, ◌++◌, map, drop, filter, filter_map, cond, not, option_map, IfSome, Option, Some, None, Ok, Err, is_some, refl, sym, ap, subst, ◌∙◌}
 use Rattle.std.specs.List.{AllByRecursion, cons_option}
 use Rattle.std.proofs.lemmas.Bool.{false≢true}
 use Rattle.std.proofs.lemmas.Option.{none-some}
@@ -17,7 +17,6 @@ use Rattle.frag_tree.specs.Trees.{CrateTree}
 use Rattle.frag_sem.specs.CallPlaces.{RegisterAt}
 use Rattle.frag_sem.specs.CrateTyping.{CrateFits}
 use Rattle.frag_sem.specs.Laws.{FittingMeans, FittingPresets}
-use Rattle.frag_sem.specs.Meaning.{next_answer}
 use Rattle.frag_sem.specs.Means.{ChainMakes, Held, Known, LinesMean, Means, PlainWrite, PresetsAre, ReadWrite, ReadableAt, StatementMeans, WritableAt, Written, answer_at, held_within, holding, reading, start_of}
 use Rattle.frag_sem.specs.PlaceIs.{PlaceIs}
 use Rattle.frag_sem.specs.Presets.{called, called_places, first_of_each, preset_of, presets, same_place}

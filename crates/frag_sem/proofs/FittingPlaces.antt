@@ -17,17 +17,17 @@ use Rattle.frag_tree.specs.declared.krate.Slot.{Slot}
 use Rattle.frag_tree.specs.declared.register.RegisterModule.{RegisterModule}
 use Rattle.frag_tree.specs.declared.statement.Call.{Call}
 use Rattle.frag_tree.specs.declared.statement.Place.{Place}
-use Rattle.frag_tree.specs.Trees.{BlockTree, CrateTree, Modules, ModuleTree, ended, register, block, one_register, one_block}
+use Rattle.frag_tree.specs.Trees.{BlockTree, CrateTree, Modules, ModuleTree, one_register, one_block}
 use Rattle.frag_sem.specs.CallPlaces.{access_named, body_count, count_of, field_named, slot_named, type_count}
 use Rattle.frag_sem.specs.CrateTyping.{CrateFits, bodies_fit, body_types, holds_such, is_array, is_module, is_one, names_module, paths_lead}
 use Rattle.frag_sem.specs.Layout.{Extent, Extents, block_extent, end_behind, extents, place_behind, place_of, placed_behind, register_extent}
-use Rattle.frag_sem.specs.Modules.{all_blocks, beside, blocks_in, each_module, module_of, modules_of, same_element, top_block}
-use Rattle.frag_sem.specs.PlaceIs.{BodyIs, FieldAt, LeadsTo, MemberAt, PlaceIs, is_laid_out}
-use Rattle.frag_sem.specs.PlaceTyping.{Inner, call_leads, inner_of, register_with, slot_module, steps_lead}
-use Rattle.frag_sem.specs.ScriptTyping.{Typed, ◌>>=◌, call_types, index_types, no_such_call, no_such_name, wrong_type}
+use Rattle.frag_sem.specs.Modules.{all_blocks, beside, blocks_in, module_of, same_element, top_block}
+use Rattle.frag_sem.specs.PlaceIs.{BodyIs, FieldAt, LeadsTo, PlaceIs, is_laid_out}
+use Rattle.frag_sem.specs.PlaceTyping.{Inner, call_leads, inner_of, register_with, steps_lead}
+use Rattle.frag_sem.specs.ScriptTyping.{◌>>=◌, call_types, index_types, no_such_call, no_such_name, wrong_type}
 use Rattle.frag_sem.specs.Surfaces.{RegisterCalls}
 use Rattle.frag_sem.specs.TextSurface.{register_calls, text_surface}
-use Rattle.frag_sem.proofs.Chains.{pushed}
+use Rattle.frag_sem.proofs.Chains.{each_beside}
 use Rattle.frag_sem.proofs.Leading.{blocks_at, blocks_gather, inside_has}
 use Rattle.frag_sem.proofs.Lists.{all_and, all_weaker, both_true, found_has, found_parts}
 use Rattle.frag_sem.proofs.Typings.{admits_typed, both_ok, not_ok, same_ok}
@@ -57,13 +57,9 @@ abbrev module_extent : ModuleTree → Extent
 module_extent (one_register unit) = register_extent unit
 module_extent (one_block unit) = block_extent unit.head (extents unit.inside)
 
-pub extents_beside : (wanted : Element) (modules : Modules) → beside wanted (extents modules) ≡ option_map module_extent (module_of wanted modules)
-unfolding extents each_module modules_of
-extents_beside wanted ended = refl
-extents_beside wanted (register unit others) =
-    pushed module_extent (same_element wanted (element.Register unit.name)) (one_register unit) (module_of wanted others) (beside wanted (extents others)) (extents_beside wanted others)
-extents_beside wanted (block head inside others) =
-    pushed module_extent (same_element wanted (element.Block head.name)) (one_block (record { head = head; inside = inside })) (module_of wanted others) (beside wanted (extents others)) (extents_beside wanted others)
+extents_beside : (wanted : Element) (modules : Modules) → beside wanted (extents modules) ≡ option_map module_extent (module_of wanted modules)
+unfolding extents
+extents_beside wanted modules = each_beside register_extent block_extent wanted modules
 
 same_element_tells : (one other : Element) → same_element one other ≡ true → one ≡ other
 same_element_tells (element.Register one) (element.Register other) h = ap (λ n. element.Register n) ((bytes_eq-Decides one other).0 h)

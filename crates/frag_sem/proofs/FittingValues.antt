@@ -1,10 +1,9 @@
 -- A value that types has one of the type that is wanted, and a link that types makes a word.
-use Rattle.std.proofs.Common.{ℕ, ◌≡◌, ◌%◌, ◌^◌, ◌<◌, zero, suc, Bool, true, false, cond, ◌==◌, List, [], ◌∷◌, ◌++◌, map, find, Option, Some, None, Ok, Err, ok_or, option_map, bytes_eq, refl, sym, ap, subst, ◌∙◌, mod-lt}
+use Rattle.std.proofs.Common.{ℕ, ◌≡◌, ◌%◌, ◌^◌, ◌<◌, Bool, true, false, cond, ◌==◌, List, [], ◌∷◌, ◌++◌, map, find, Option, Some, None, Ok, ok_or, option_map, bytes_eq, refl, sym, ap, subst, ◌∙◌, mod-lt}
 use Rattle.std.specs.Prelude.{codes, if◌then◌else◌, IsSomeAnd, ⊤}
 use Rattle.std.specs.List.{AllByRecursion}
 use Rattle.std.proofs.lemmas.Bool.{eqb-true, ltb-true}
 use Rattle.pac_base.specs.declared.width.Width.{Width}
-use Rattle.pac_base.specs.declared.width.Width.TheVariants.{W64}
 use Rattle.pac_base.specs.Widths.{bits_of}
 use Rattle.frag_tree.specs.declared.event.Said.{Said}
 use Rattle.frag_tree.specs.declared.event.Said.TheVariants.{Number, Truth}
@@ -27,11 +26,11 @@ use Rattle.frag_tree.specs.declared.statement.Link.TheVariants as link
 use Rattle.frag_tree.specs.declared.statement.Source.{Source}
 use Rattle.frag_tree.specs.declared.statement.Source.TheVariants as source
 use Rattle.frag_tree.specs.declared.statement.Value.{Value}
-use Rattle.frag_sem.specs.Means.{AtomIs, BitTakes, BitsTake, ChainMakes, CompareGives, FieldGives, FormGives, FormMakes, Held, LinkMakes, Negated, NumberIs, SourceIs, SpotIs, TestGives, ValueIs, held_as}
+use Rattle.frag_sem.specs.Means.{AtomIs, BitTakes, BitsTake, ChainMakes, CompareGives, FieldGives, FormGives, FormMakes, Held, LinkMakes, NumberIs, SourceIs, SpotIs, TestGives, ValueIs, held_as}
 use Rattle.frag_sem.specs.PreludeCalls.{bit_tests, bit_writes}
 use Rattle.frag_sem.specs.PreludeWords.{as_bits, bit_of, is_set, same_truth, taken, written}
 use Rattle.frag_sem.specs.ProxyTypes.{numbers_on, reader_type, readers_of, same_width, truths_on, writer_type, writers_of}
-use Rattle.frag_sem.specs.ScriptTyping.{Names, Typed, Wanted, ◌>>=◌, anything, argument_types, atom_types, chain_types, holds_or, index_types, is_number, just, link_types, literal_types, name_of, no_such_call, no_such_name, read_call, source_type, type_fits, value_types, write_call, wrong_type}
+use Rattle.frag_sem.specs.ScriptTyping.{Typed, Wanted, ◌>>=◌, anything, argument_types, atom_types, chain_types, holds_or, index_types, is_number, just, link_types, literal_types, name_of, no_such_call, no_such_name, read_call, source_type, type_fits, value_types, write_call, wrong_type}
 use Rattle.frag_sem.specs.Spots.{read_spot, spot_at, spot_count, write_spot}
 use Rattle.frag_sem.specs.Surfaces.{ReadCall, ReadField, RegisterCalls, ValueType, WriteCall, WriteField, number, truth}
 use Rattle.frag_sem.specs.TextMeaning.{reader_named, writer_named}

@@ -1,11 +1,10 @@
 -- Where registers do alike, scripts mean the same.
-use Rattle.std.proofs.Common.{ℕ, ◌≡◌, ◌%◌, ◌^◌, ◌<◌, Bool, true, false, cond, List, [], ◌∷◌, ◌++◌, drop, fold, find, filter_map, Option, Some, None, option_map, bytes_eq, refl, sym, ap, ap₂, subst, ◌∙◌, arith, mod-lt}
+use Rattle.std.proofs.Common.{ℕ, ◌≡◌, ◌^◌, ◌<◌, Bool, true, false, cond, List, [], ◌∷◌, ◌++◌, drop, filter_map, Option, Some, None, option_map, bytes_eq, refl, ap, ap₂, ◌∙◌, mod-lt}
 use Rattle.std.specs.Prelude.{⊤}
 use Rattle.std.specs.List.{cons_option}
 use Rattle.pac_base.specs.Widths.{bits_of}
-use Rattle.frag_tree.specs.declared.event.Event.{Event}
 use Rattle.frag_tree.specs.declared.event.Event.TheVariants as event
-use Rattle.frag_tree.specs.declared.event.Said.TheVariants.{Number, Truth}
+use Rattle.frag_tree.specs.declared.event.Said.TheVariants.{Number}
 use Rattle.frag_tree.specs.declared.script.ScriptLine.{ScriptLine}
 use Rattle.frag_tree.specs.declared.statement.Atom.{Atom}
 use Rattle.frag_tree.specs.declared.statement.Atom.TheVariants as atom
@@ -20,11 +19,11 @@ use Rattle.frag_tree.specs.declared.statement.Statement.TheVariants as statement
 use Rattle.frag_tree.specs.declared.statement.Value.{Value}
 use Rattle.frag_sem.specs.PreludeWords.{as_bits}
 use Rattle.frag_sem.specs.ScriptTyping.{reader_name}
-use Rattle.frag_sem.specs.Presets.{Preset, called_places, preset_of, presets}
+use Rattle.frag_sem.specs.Presets.{called_places, preset_of, presets}
 use Rattle.frag_sem.proofs.Words.{answer_small, some_power}
 use Rattle.frag_sem.specs.Laws.{AlikeMean, AlikePreset}
 use Rattle.frag_sem.specs.Likeness.{Alike, AlikePlaces, BothAlike, SamePlace}
-use Rattle.frag_sem.specs.Meaning.{Acts, ActsAt, Bound, Outcome, Places, Standing, answer_for, argument, at_place, atom_value, bits_of_bound, bound_as, chain_written, events_then, field_of_bound, let_outcome, lines_meaning, link_written, meaning, modify_outcome, names_within, negated, next_answer, number_said, outcome_of, reset_outcome, source_value, value_of, write_outcome}
+use Rattle.frag_sem.specs.Meaning.{Acts, ActsAt, Bound, Outcome, Places, Standing, answer_for, argument, at_place, atom_value, bits_of_bound, bound_as, chain_written, field_of_bound, let_outcome, lines_meaning, link_written, meaning, modify_outcome, names_within, negated, next_answer, number_said, outcome_of, reset_outcome, source_value, value_of, write_outcome}
 
 -- ---- bound names
 

@@ -1,5 +1,5 @@
 -- What a script means with nothing missing is its meaning.
-use Rattle.std.proofs.Common.{ℕ, ◌≡◌, ◌+◌, ◌%◌, ◌^◌, ◌<◌, Bool, true, false, cond, List, [], ◌∷◌, ◌++◌, map, find, drop, fold, Option, Some, None, option_map, bytes_eq, refl, sym, ap, ap₂, ◌∙◌, mod-eq_of_lt}
+use Rattle.std.proofs.Common.{ℕ, ◌≡◌, Bool, true, false, cond, List, [], ◌∷◌, ◌++◌, map, find, drop, Option, Some, None, option_map, bytes_eq, refl, sym, ap, ap₂, ◌∙◌, mod-eq_of_lt}
 use Rattle.std.specs.Prelude.{codes, if◌then◌else◌, unwrap_or, IsSomeAnd}
 use Rattle.pac_base.specs.Widths.{bits_of}
 use Rattle.pac_base.specs.declared.width.Width.{Width}
@@ -34,13 +34,13 @@ use Rattle.frag_tree.specs.declared.statement.Value.{Value}
 use Rattle.frag_tree.specs.Trees.{CrateTree}
 use Rattle.frag_sem.specs.CallPlaces.{RegisterAt, register_at}
 use Rattle.frag_sem.specs.Laws.{MeansOne}
-use Rattle.frag_sem.specs.Meaning.{ActsAt, Bound, Outcome, Standing, answer_for, argument, at_place, atom_value, bits_of_bound, bound_as, chain_written, events_then, field_of_bound, let_outcome, lines_meaning, link_written, meaning, modify_outcome, names_within, negated, number_said, outcome_of, reset_outcome, source_value, value_of, write_outcome}
-use Rattle.frag_sem.specs.Means.{AtomIs, BitTakes, BitsTake, ChainMakes, CompareGives, FieldGives, FormGives, FormMakes, Held, Known, LinesMean, LinkMakes, Means, Negated, SourceIs, SpotIs, StatementMeans, TestGives, ValueIs, WritableAt, answer_at, held_as, held_within, start_of}
+use Rattle.frag_sem.specs.Meaning.{ActsAt, Bound, Outcome, Standing, argument, at_place, atom_value, bits_of_bound, bound_as, chain_written, events_then, field_of_bound, let_outcome, lines_meaning, link_written, meaning, modify_outcome, names_within, negated, number_said, outcome_of, reset_outcome, source_value, value_of, write_outcome}
+use Rattle.frag_sem.specs.Means.{AtomIs, BitTakes, BitsTake, ChainMakes, CompareGives, FieldGives, FormGives, FormMakes, Held, Known, LinesMean, LinkMakes, Means, Negated, SourceIs, SpotIs, StatementMeans, TestGives, ValueIs, answer_at, held_as, held_within, start_of}
 use Rattle.frag_sem.specs.PreludeCalls.{bit_tests, bit_writes}
 use Rattle.frag_sem.specs.PreludeWords.{as_bits, bit_of, is_set, start_word, taken, written}
 use Rattle.frag_sem.specs.ProxyTypes.{numbers_on, reader_type, truths_on, writer_type}
 use Rattle.frag_sem.specs.Spots.{spot_at}
-use Rattle.frag_sem.specs.TextMeaning.{acts_at, bit_given, bit_put, bits_given, bits_put, compared_number, compared_truth, field_given, field_written, form_given, form_written, number_or, reader_given, reader_named, started, text_acts, text_at, text_meaning, truth_or, writer_named, writer_written}
+use Rattle.frag_sem.specs.TextMeaning.{acts_at, bit_given, bits_given, compared_number, compared_truth, field_given, field_written, form_given, form_written, number_or, reader_given, reader_named, started, text_acts, text_at, text_meaning, truth_or, writer_named, writer_written}
 use Rattle.frag_sem.proofs.PlacesFound.{place_found}
 
 -- ---- bound names

@@ -1,5 +1,5 @@
 -- Places of the relation are those of the look-up.
-use Rattle.std.proofs.Common.{ℕ, ◌≡◌, ◌+◌, ◌*◌, Bool, true, List, [], ◌∷◌, Option, Some, None, option_map, option_and_then, refl, sym, ap, ap₂, ◌∙◌}
+use Rattle.std.proofs.Common.{ℕ, ◌≡◌, ◌+◌, ◌*◌, true, List, [], ◌∷◌, Option, Some, None, option_and_then, refl, sym, ap, ap₂, ◌∙◌}
 use Rattle.std.specs.Prelude.{if◌then◌else◌, unwrap_or}
 use Rattle.std.proofs.lemmas.Bool.{lt-ltb}
 use Rattle.frag_tree.specs.declared.access.Access.{Access}

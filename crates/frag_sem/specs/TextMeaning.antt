@@ -1,5 +1,5 @@
 -- What a script does against a crate text: the events that the text's bodies and the prelude give (this project's own rule). It looks at the text alone.
-use Rattle.std.specs.Prelude.{ℕ, ◌%◌, ◌^◌, Bool, true, false, ◌==◌, List, [], ◌∷◌, ◌++◌, codes, drop, find, fold, Option, Some, None, option_map, unwrap_or, if◌then◌else◌}
+use Rattle.std.specs.Prelude.{ℕ, Bool, ◌==◌, List, ◌++◌, codes, find, Option, Some, None, option_map, unwrap_or, if◌then◌else◌}
 use Rattle.std.specs.Str.{bytes_eq}
 use Rattle.pac_base.specs.Widths.{bits_of}
 use Rattle.frag_tree.specs.declared.event.Event.{Event}
