@@ -8,6 +8,7 @@ use Rattle.frag_tree.specs.declared.event.Event.{Event}
 use Rattle.frag_tree.specs.declared.event.Event.TheVariants as event
 use Rattle.frag_tree.specs.declared.register.RegisterModule.{RegisterModule}
 use Rattle.frag_tree.specs.declared.register.Writable.{Writable}
+use Rattle.frag_tree.specs.declared.script.Script.{Script}
 use Rattle.frag_tree.specs.declared.script.ScriptLine.{ScriptLine}
 use Rattle.frag_tree.specs.declared.statement.Link.{Link}
 use Rattle.frag_tree.specs.declared.statement.Place.{Place}
@@ -19,8 +20,9 @@ use Rattle.frag_sem.specs.CrateTyping.{CrateFits}
 use Rattle.frag_sem.specs.Laws.{FittingMeans, FittingPresets}
 use Rattle.frag_sem.specs.Means.{ChainMakes, Held, Known, LinesMean, Means, PlainWrite, PresetsAre, ReadWrite, ReadableAt, StatementMeans, WritableAt, Written, answer_at, held_within, holding, reading, start_of}
 use Rattle.frag_sem.specs.PlaceIs.{PlaceIs}
+use Rattle.frag_sem.specs.PlaceTyping.{module_fault, module_scope}
 use Rattle.frag_sem.specs.Presets.{called, called_places, first_of_each, preset_of, presets, same_place}
-use Rattle.frag_sem.specs.ScriptTyping.{LineFault, Names, Typed, ◌>>=◌, anything, call_types, can_modify, can_read, can_write, chain_types, holds_or, is_new, line_fault, lines_fault, names_within, rebound, script_fault, statement_types, value_types}
+use Rattle.frag_sem.specs.ScriptTyping.{LineFault, Names, Typed, ◌>>=◌, anything, can_modify, can_read, can_write, chain_types, holds_or, is_new, line_fault, lines_fault, names_within, rebound, script_fault, statement_types, value_types}
 use Rattle.frag_sem.specs.Surfaces.{RegisterCalls}
 use Rattle.frag_sem.specs.TextMeaning.{acts_at, text_at, text_presets}
 use Rattle.frag_sem.specs.TextSurface.{register_calls, text_surface}
@@ -30,6 +32,7 @@ use Rattle.frag_sem.proofs.Lists.{both_true}
 use Rattle.frag_sem.proofs.PlacesFound.{place_found}
 use Rattle.frag_sem.proofs.MeansOne.{means_one}
 use Rattle.frag_sem.proofs.Typings.{both_ok, same_ok}
+use Rattle.frag_sem.proofs.Walking.{faults_by_modules}
 use Rattle.frag_sem.proofs.Words.{answer_small}
 
 -- the names within the chain of a `modify`, by their types and by their words
@@ -83,11 +86,11 @@ module _ (krate : CrateTree) (fits : CrateFits krate) (known : Known) (words : A
   chain_of : (unit : RegisterModule) (calls : RegisterCalls) (names : List Held) (base : ℕ) (chain : List Link) → AreWords names → register_calls unit ≡ calls → chain_types (map typed_held names) calls chain ≡ Ok tt → (end : ℕ) × ChainMakes unit names base chain end
   chain_of unit calls names base chain held same typed = chain_there unit names held base chain (ap (λ c. chain_types (map typed_held names) c chain) same ∙ typed)
 
-  let_done : (name : List ℕ) (place : Place) (typed : Names) → statement_types (text_surface krate) (map typed_held known.names) (statement.Let name place) ≡ Ok typed → Done krate known (statement.Let name place) typed
+  let_done : (name : List ℕ) (place : Place) (typed : Names) → statement_types (module_scope krate) (map typed_held known.names) (statement.Let name place) ≡ Ok typed → Done krate known (statement.Let name place) typed
   unfolding statement_types register_calls
   let_done name place typed h =
-      let new = both_ok (holds_or rebound (is_new (text_surface krate) (map typed_held known.names) name)) _ typed h in
-      let called = both_ok (call_types can_read (text_surface krate) place) _ typed new.2 in
+      let new = both_ok (holds_or rebound (is_new (module_scope krate) (map typed_held known.names) name)) _ typed h in
+      let called = both_ok ((module_scope krate).call can_read place) _ typed new.2 in
       let there = call_there krate fits can_read place called.0 called.1 in
       let found = stands_at there in
       record {
@@ -98,9 +101,9 @@ module _ (krate : CrateTree) (fits : CrateFits krate) (known : Known) (words : A
         names_are = sym (same_ok _ typed called.2) ∙ ap (λ c. (name, c) ∷ map typed_held known.names) (sym there.calls_are);
       }
 
-  write_done : (place : Place) (chain : List Link) (base : RegisterAt → Writable → ℕ) (typed : Names) → (call_types can_write (text_surface krate) place >>= λ register. (chain_types (map typed_held known.names) register chain >>= λ _. Ok (map typed_held known.names))) ≡ Ok typed → (events : List Event) × PlainWrite krate known place chain base events known × (typed ≡ map typed_held known.names)
+  write_done : (place : Place) (chain : List Link) (base : RegisterAt → Writable → ℕ) (typed : Names) → ((module_scope krate).call can_write place >>= λ register. (chain_types (map typed_held known.names) register chain >>= λ _. Ok (map typed_held known.names))) ≡ Ok typed → (events : List Event) × PlainWrite krate known place chain base events known × (typed ≡ map typed_held known.names)
   write_done place chain base typed h =
-      let called = both_ok (call_types can_write (text_surface krate) place) _ typed h in
+      let called = both_ok ((module_scope krate).call can_write place) _ typed h in
       let there = call_there krate fits can_write place called.0 called.1 in
       let found = stands_at there in
       let masks = writable_there place called.0 there in
@@ -109,10 +112,10 @@ module _ (krate : CrateTree) (fits : CrateFits krate) (known : Known) (words : A
       let made = event.Write found.address there.unit.word end.0 in
       (made ∷ [], plain_write krate known place chain base found masks.0 masks.1 made (write_made found known.names (base found masks.0) chain end.0 end.1), sym (same_ok (map typed_held known.names) typed chained.2))
 
-  modify_done : (place : Place) (names_reader : Bool) (chain : List Link) (typed : Names) → statement_types (text_surface krate) (map typed_held known.names) (statement.Modify place names_reader chain) ≡ Ok typed → Done krate known (statement.Modify place names_reader chain) typed
+  modify_done : (place : Place) (names_reader : Bool) (chain : List Link) (typed : Names) → statement_types (module_scope krate) (map typed_held known.names) (statement.Modify place names_reader chain) ≡ Ok typed → Done krate known (statement.Modify place names_reader chain) typed
   unfolding statement_types register_calls
   modify_done place names_reader chain typed h =
-      let called = both_ok (call_types can_modify (text_surface krate) place) _ typed h in
+      let called = both_ok ((module_scope krate).call can_modify place) _ typed h in
       let there = call_there krate fits can_modify place called.0 called.1 in
       let found = stands_at there in
       let has = both_true there.unit.readable (is_some there.unit.writable) there.has in
@@ -132,10 +135,10 @@ module _ (krate : CrateTree) (fits : CrateFits krate) (known : Known) (words : A
         names_are = sym (same_ok (map typed_held known.names) typed chained.2);
       }
 
-  reset_done : (place : Place) (typed : Names) → statement_types (text_surface krate) (map typed_held known.names) (statement.Reset place) ≡ Ok typed → Done krate known (statement.Reset place) typed
+  reset_done : (place : Place) (typed : Names) → statement_types (module_scope krate) (map typed_held known.names) (statement.Reset place) ≡ Ok typed → Done krate known (statement.Reset place) typed
   unfolding statement_types
   reset_done place typed h =
-      let called = both_ok (call_types can_write (text_surface krate) place) _ typed h in
+      let called = both_ok ((module_scope krate).call can_write place) _ typed h in
       let there = call_there krate fits can_write place called.0 called.1 in
       let found = stands_at there in
       let masks = writable_there place called.0 there in
@@ -147,7 +150,7 @@ module _ (krate : CrateTree) (fits : CrateFits krate) (known : Known) (words : A
         names_are = sym (same_ok (map typed_held known.names) typed called.2);
       }
 
-  statement_done : (said : Statement) (typed : Names) → statement_types (text_surface krate) (map typed_held known.names) said ≡ Ok typed → Done krate known said typed
+  statement_done : (said : Statement) (typed : Names) → statement_types (module_scope krate) (map typed_held known.names) said ≡ Ok typed → Done krate known said typed
   unfolding statement_types
   statement_done (statement.Let name place) typed h = let_done name place typed h
   statement_done (statement.Write place chain) typed h =
@@ -176,19 +179,23 @@ no_fault : (line : ℕ) (found : Typed Names) (others : Names → Option LineFau
 no_fault line (Ok names) others h = (names, refl, h)
 no_fault line (Err kind) others h = absurd (none-some _ (sym h))
 
-lines_done : (krate : CrateTree) → CrateFits krate → (lines : List ScriptLine) (known : Known) → AreWords known.names → lines_fault (text_surface krate) lines (map typed_held known.names) ≡ None → (events : List Event) × LinesMean krate lines known events
+-- a script that fits is one in which walking the modules finds no fault
+none_by_modules : (krate : CrateTree) → CrateFits krate → (script : Script) → script_fault (text_surface krate) script ≡ None → module_fault krate script ≡ None
+none_by_modules krate fits script none = sym (faults_by_modules krate fits.distinct_names fits.slot_modules script) ∙ none
+
+lines_done : (krate : CrateTree) → CrateFits krate → (lines : List ScriptLine) (known : Known) → AreWords known.names → lines_fault (module_scope krate) lines (map typed_held known.names) ≡ None → (events : List Event) × LinesMean krate lines known events
 unfolding lines_fault LinesMean
 lines_done krate fits [] known words h = ([], refl)
 lines_done krate fits (line ∷ lines) known words h =
-    let typed = no_fault line.line (statement_types (text_surface krate) (map typed_held known.names) line.statement) (lines_fault (text_surface krate) lines) h in
+    let typed = no_fault line.line (statement_types (module_scope krate) (map typed_held known.names) line.statement) (lines_fault (module_scope krate) lines) h in
     let done = statement_done krate fits known words line.statement typed.0 typed.1 in
-    let more = lines_done krate fits lines done.after done.words (ap (lines_fault (text_surface krate) lines) (sym done.names_are) ∙ typed.2) in
+    let more = lines_done krate fits lines done.after done.words (ap (lines_fault (module_scope krate) lines) (sym done.names_are) ∙ typed.2) in
     (done.events ++ more.0, record { first = done.events; after = done.after; later = more.0; here_is = done.means; later_is = more.1; events_are = refl })
 
 pub fitting_means : FittingMeans
-unfolding Means script_fault
+unfolding Means module_fault
 fitting_means krate fits script none answers =
-    let done = lines_done krate fits script.lines (record { answers = answers; names = [] }) tt none in
+    let done = lines_done krate fits script.lines (record { answers = answers; names = [] }) tt (none_by_modules krate fits script none) in
     subst (LinesMean krate script.lines (record { answers = answers; names = [] })) (means_one krate script answers done.0 done.1) done.1
 
 -- ---- presets
@@ -198,16 +205,16 @@ abbrev Stands : CrateTree → Place → Type 0
 Stands krate place = (found : RegisterAt) × PlaceIs krate place found
 
 -- so at the place of each register call that types
-call_stands : (krate : CrateTree) → CrateFits krate → (has_call : RegisterCalls → Bool) (place : Place) (others : RegisterCalls → Typed Names) (typed : Names) → (call_types has_call (text_surface krate) place >>= others) ≡ Ok typed → Stands krate place
+call_stands : (krate : CrateTree) → CrateFits krate → (has_call : RegisterCalls → Bool) (place : Place) (others : RegisterCalls → Typed Names) (typed : Names) → ((module_scope krate).call has_call place >>= others) ≡ Ok typed → Stands krate place
 call_stands krate fits has_call place others typed h =
-    let called = both_ok (call_types has_call (text_surface krate) place) others typed h in
+    let called = both_ok ((module_scope krate).call has_call place) others typed h in
     let there = call_there krate fits has_call place called.0 called.1 in
     (stands_at there, there.place_is)
 
-statement_stands : (krate : CrateTree) → CrateFits krate → (said : Statement) (names typed : Names) → statement_types (text_surface krate) names said ≡ Ok typed → IfSome (called said) (Stands krate)
+statement_stands : (krate : CrateTree) → CrateFits krate → (said : Statement) (names typed : Names) → statement_types (module_scope krate) names said ≡ Ok typed → IfSome (called said) (Stands krate)
 unfolding statement_types
 statement_stands krate fits (statement.Let name place) names typed h =
-    let new = both_ok (holds_or rebound (is_new (text_surface krate) names name)) _ typed h in
+    let new = both_ok (holds_or rebound (is_new (module_scope krate) names name)) _ typed h in
     call_stands krate fits can_read place _ typed new.2
 statement_stands krate fits (statement.Write place chain) names typed h = call_stands krate fits can_write place _ typed h
 statement_stands krate fits (statement.WriteWithZero place chain) names typed h = call_stands krate fits can_write place _ typed h
@@ -220,11 +227,11 @@ more_called : (P : Place → Type 0) (o : Option Place) (others : List Place) �
 more_called P None others first all = all
 more_called P (Some place) others first all = (first, all)
 
-all_stand : (krate : CrateTree) → CrateFits krate → (lines : List ScriptLine) (names : Names) → lines_fault (text_surface krate) lines names ≡ None → AllByRecursion (Stands krate) (filter_map (λ line. called line.statement) lines)
+all_stand : (krate : CrateTree) → CrateFits krate → (lines : List ScriptLine) (names : Names) → lines_fault (module_scope krate) lines names ≡ None → AllByRecursion (Stands krate) (filter_map (λ line. called line.statement) lines)
 unfolding lines_fault
 all_stand krate fits [] names h = tt
 all_stand krate fits (line ∷ lines) names h =
-    let typed = no_fault line.line (statement_types (text_surface krate) names line.statement) (lines_fault (text_surface krate) lines) h in
+    let typed = no_fault line.line (statement_types (module_scope krate) names line.statement) (lines_fault (module_scope krate) lines) h in
     more_called (Stands krate) (called line.statement) (filter_map (λ other. called other.statement) lines) (statement_stands krate fits line.statement names typed.0 typed.1) (all_stand krate fits lines typed.0 typed.2)
 
 -- what all have, those have that are left
@@ -254,6 +261,6 @@ presets_are krate (place ∷ places) all =
     }
 
 pub fitting_presets : FittingPresets
-unfolding script_fault text_presets presets
+unfolding module_fault text_presets presets
 fitting_presets krate fits script none =
-    presets_are krate (called_places script) (all_once (Stands krate) same_place (filter_map (λ line. called line.statement) script.lines) (all_stand krate fits script.lines [] none))
+    presets_are krate (called_places script) (all_once (Stands krate) same_place (filter_map (λ line. called line.statement) script.lines) (all_stand krate fits script.lines [] (none_by_modules krate fits script none)))

@@ -24,14 +24,13 @@ use Rattle.frag_sem.specs.Layout.{Extent, Extents, block_extent, end_behind, ext
 use Rattle.frag_sem.specs.Modules.{all_blocks, beside, blocks_in, module_of, same_element, top_block}
 use Rattle.frag_sem.specs.PlaceIs.{BodyIs, FieldAt, LeadsTo, PlaceIs, is_laid_out}
 use Rattle.frag_sem.specs.PlaceTyping.{Inner, call_leads, inner_of, register_with, steps_lead}
-use Rattle.frag_sem.specs.ScriptTyping.{◌>>=◌, call_types, index_types, no_such_call, no_such_name, wrong_type}
+use Rattle.frag_sem.specs.ScriptTyping.{◌>>=◌, index_types, no_such_call, no_such_name, wrong_type}
 use Rattle.frag_sem.specs.Surfaces.{RegisterCalls}
-use Rattle.frag_sem.specs.TextSurface.{register_calls, text_surface}
+use Rattle.frag_sem.specs.TextSurface.{register_calls}
 use Rattle.frag_sem.proofs.Chains.{each_beside}
 use Rattle.frag_sem.proofs.Leading.{blocks_at, blocks_gather, inside_has}
 use Rattle.frag_sem.proofs.Lists.{all_and, all_weaker, both_true, found_has, found_parts}
 use Rattle.frag_sem.proofs.Typings.{admits_typed, both_ok, not_ok, same_ok}
-use Rattle.frag_sem.proofs.Walking.{calls_by_modules}
 
 -- ---- fields of a struct
 
@@ -237,7 +236,7 @@ slot_there krate fits has_call place unit h = by (slot_named place.slot krate.sl
     by (Some slot) is e = in_block slot (top_block slot.block krate.blocks) is refl e
 
 -- A register call that types is one of a register that stands at the place.
-pub call_there : (krate : CrateTree) → CrateFits krate → (has_call : RegisterCalls → Bool) (place : Place) (calls : RegisterCalls) → call_types has_call (text_surface krate) place ≡ Ok calls → Standing krate has_call place calls
+pub call_there : (krate : CrateTree) → CrateFits krate → (has_call : RegisterCalls → Bool) (place : Place) (calls : RegisterCalls) → (call_leads has_call krate place >>= λ unit. Ok (register_calls unit)) ≡ Ok calls → Standing krate has_call place calls
 call_there krate fits has_call place calls h =
-    let found = both_ok (call_leads has_call krate place) (λ unit. Ok (register_calls unit)) calls (sym (calls_by_modules krate fits.distinct_names fits.slot_modules has_call place) ∙ h) in
+    let found = both_ok (call_leads has_call krate place) (λ unit. Ok (register_calls unit)) calls h in
     subst (Standing krate has_call place) (same_ok (register_calls found.0) calls found.2) (slot_there krate fits has_call place found.0 found.1)

@@ -20,7 +20,7 @@ use Rattle.frag_sem.specs.CrateTyping.{AddressRange, Constants, CrateFits, Disti
 use Rattle.frag_sem.specs.Layout.{Extents, block_extent, end_of, place_named, placed, type_extent}
 use Rattle.frag_sem.specs.CallPlaces.{register_at}
 use Rattle.frag_sem.specs.Modules.{all_registers}
-use Rattle.frag_sem.specs.PlaceTyping.{call_leads}
+use Rattle.frag_sem.specs.PlaceTyping.{call_leads, module_fault}
 use Rattle.frag_sem.specs.ScriptTyping.{◌>>=◌, call_types, is_slot, script_fault}
 use Rattle.frag_sem.specs.Surfaces.{RegisterCalls}
 use Rattle.frag_sem.specs.TextSurface.{register_calls, text_surface}
@@ -210,6 +210,10 @@ CallsByModules =
 -- Where each slot has its module, a name is a slot of the surface exactly where a slot has it.
 abbrev pub SlotsByName : Type 0
 SlotsByName = (krate : CrateTree) → SlotModules krate → (name : List ℕ) → is_slot (text_surface krate) name ≡ list_any (bytes_eq name) (map (λ slot. slot.name) krate.slots)
+
+-- So walking the modules finds the fault of each script.
+abbrev pub FaultsByModules : Type 0
+FaultsByModules = (krate : CrateTree) → DistinctNames krate → SlotModules krate → (script : Script) → script_fault (text_surface krate) script ≡ module_fault krate script
 
 -- A register call that types is one of the register that stands at the place.
 abbrev pub CallsAreThere : Type 0

@@ -1,5 +1,5 @@
 // The laws of layouts and of the words that readers and writers make.
-ghost use Rattle.frag_sem.specs.Laws.{AlikeMean, AlikePreset, BitReaderGets, CallsAreThere, CallsByModules, CutEndsDecide, EndsDecide, EndsGrow, EventsAreFew, EventsInRange, FieldsAligned, FieldsApart, FitsByTests, FittingMeans, FittingPresets, MeansOne, PlaceBehindEnd, PlaceBehindGap, PlacesAreRegisters, PresetsInRange, ReaderGets, ReadsAreAnswered, ReadsWritten, RefusedByTests, SizeReaches, SlotsByName, StartStays, StartWithoutMasks, StartWordIsStart, VersionKeeps, WriterPuts, WrittenStays};
+ghost use Rattle.frag_sem.specs.Laws.{AlikeMean, AlikePreset, BitReaderGets, CallsAreThere, CallsByModules, CutEndsDecide, EndsDecide, EndsGrow, EventsAreFew, EventsInRange, FaultsByModules, FieldsAligned, FieldsApart, FitsByTests, FittingMeans, FittingPresets, MeansOne, PlaceBehindEnd, PlaceBehindGap, PlacesAreRegisters, PresetsInRange, ReaderGets, ReadsAreAnswered, ReadsWritten, RefusedByTests, SizeReaches, SlotsByName, StartStays, StartWithoutMasks, StartWordIsStart, VersionKeeps, WriterPuts, WrittenStays};
 
 /// Where the fields of a struct stand: behind a gap that ends at a multiple of the alignment, there; and
 /// no two of them share a byte.
@@ -64,10 +64,11 @@ pub fn likeness_law()
     ensures presets { AlikePreset }
 {}
 
-/// What the surface of a crate says of a register call is what its modules say, found by walking them; and
-/// a call that types is one of the register at the place.
+/// What the surface of a crate says of a register call, of slots and of whole scripts is what its modules say,
+/// found by walking them; and a call that types is one of the register at the place.
 pub fn surface_law()
     ensures modules { CallsByModules }
     ensures there { CallsAreThere }
     ensures slots { SlotsByName }
+    ensures faults { FaultsByModules }
 {}
