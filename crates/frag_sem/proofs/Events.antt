@@ -1,36 +1,29 @@
 -- The events of a script: what each access is, and how many there are.
-use Rattle.std.proofs.Common.{ℕ, ◌≡◌, ◌+◌, ◌*◌, ◌/◌, ◌^◌, ◌<◌, ◌≤◌, Bool, true, List, [], ◌∷◌, ◌++◌, length, Option, Some, None, IfSome, option_map, option_and_then, filter_map, bytes_eq, refl, arith, mod-lt, length-append}
-use Rattle.std.specs.Prelude.{unwrap_or}
+use Rattle.std.proofs.Common.{ℕ, ◌≡◌, ◌+◌, ◌*◌, ◌/◌, ◌^◌, ◌<◌, ◌≤◌, Bool, true, List, [], ◌∷◌, ◌++◌, length, Option, Some, None, IfSome, option_map, option_and_then, filter_map, bytes_eq, refl, arith, length-append}
 use Rattle.std.specs.List.{list_all, AllByRecursion, cons_option}
-use Rattle.std.proofs.lemmas.Bool.{ltb-true}
 use Rattle.pac_base.specs.Widths.{bits_of}
 use Rattle.frag_tree.specs.declared.event.Event.{Event}
 use Rattle.frag_tree.specs.declared.krate.Slot.{Slot}
 use Rattle.frag_tree.specs.declared.register.RegisterModule.{RegisterModule}
-use Rattle.frag_tree.specs.declared.register.Writable.{Writable}
-use Rattle.frag_tree.specs.declared.register.Writer.{Writer}
-use Rattle.frag_tree.specs.declared.register.WriteForm.{WriteForm}
-use Rattle.frag_tree.specs.declared.register.WriteForm.TheVariants as write
 use Rattle.frag_tree.specs.declared.script.ScriptLine.{ScriptLine}
-use Rattle.frag_tree.specs.declared.statement.Link.{Link}
-use Rattle.frag_tree.specs.declared.statement.Link.TheVariants as link
 use Rattle.frag_tree.specs.declared.statement.Place.{Place}
 use Rattle.frag_tree.specs.declared.statement.Call.{Call}
 use Rattle.frag_tree.specs.declared.statement.Statement.{Statement}
 use Rattle.frag_tree.specs.declared.statement.Statement.TheVariants as statement
 use Rattle.frag_tree.specs.Trees.{BlockTree, CrateTree, ModuleTree, one_block}
 use Rattle.frag_sem.specs.CallPlaces.{RegisterAt, from_slot, leads, register_at, slot_named}
-use Rattle.frag_sem.specs.CrateTyping.{AddressRange, Constants, constants_fit, constants_of, has_bits, masks_of}
+use Rattle.frag_sem.specs.CrateTyping.{register_constants_fit, AddressRange, Constants, constants_fit}
+use Rattle.frag_sem.specs.Likeness.{KeepsWords}
 use Rattle.frag_sem.specs.Laws.{AccessInRange, AreAnswered, EventInRange, EventsAreFew, EventsInRange, PlacesAreRegisters, PresetsInRange, ReadsAreAnswered, VersionKeeps}
 use Rattle.frag_sem.specs.Modules.{all_registers, registers_in, top_block}
-use Rattle.frag_sem.specs.Spots.{spot_at}
-use Rattle.frag_sem.specs.Meaning.{Acts, ActsAt, Bound, Outcome, Places, Standing, answer_for, argument, at_place, chain_written, events_then, let_outcome, lines_meaning, link_written, meaning, modify_outcome, names_within, number_said, outcome_of, reset_outcome, value_of, write_outcome}
+use Rattle.frag_sem.specs.Meaning.{ActsAt, Outcome, Places, Standing, answer_for, at_place, events_then, let_outcome, lines_meaning, meaning, modify_outcome, names_within, outcome_of, reset_outcome, write_outcome}
 use Rattle.frag_sem.specs.Presets.{Preset, called_places, preset_of, presets}
-use Rattle.frag_sem.specs.TextMeaning.{acts_at, field_written, form_written, one_to_modify, started, text_acts, text_at, text_meaning, text_presets, writer_named, writer_written, zero_to_modify}
+use Rattle.frag_sem.specs.TextMeaning.{acts_at, text_at, text_meaning, text_presets}
 use Rattle.frag_sem.specs.TextSurface.{text_surface}
+use Rattle.frag_sem.proofs.KeptWords.{chain_small, keeps_words}
 use Rattle.frag_sem.proofs.Leading.{inside_has, leads_keeps, registers_at, registers_gather}
-use Rattle.frag_sem.proofs.Lists.{all_both, both_true, found_parts}
-use Rattle.frag_sem.proofs.Words.{answer_small, some_power, start_small, written_small}
+use Rattle.frag_sem.proofs.Lists.{both_true, found_parts}
+use Rattle.frag_sem.proofs.Words.{answer_small, some_power}
 
 -- ---- the register of a place is one of the crate's
 
@@ -57,42 +50,10 @@ places_are_registers test krate all place = place_has test krate all place.steps
 
 -- ---- a register in range
 
--- words of a register's width stay so
-record KeepsWords (acts : Acts) : Type 0 where
-  reset : acts.reset < 2 ^ bits_of acts.width
-  start : (word : ℕ) → word < 2 ^ bits_of acts.width → acts.start word < 2 ^ bits_of acts.width
-  put : (field : List ℕ) (index : Option ℕ) (method : List ℕ) (value word : ℕ) → word < 2 ^ bits_of acts.width → acts.put field index method value word < 2 ^ bits_of acts.width
-
+-- a register that ends at or below 2^64, and keeps words
 record InRange (found : ActsAt) : Type 0 where
   ends : found.address + bits_of found.acts.width / 8 ≤ 2 ^ 64
   words : KeepsWords found.acts
-
-module _ (unit : RegisterModule) (constants : list_all (λ constant. has_bits (bits_of unit.word) constant.value) (constants_of unit) ≡ true) where
-  parts : (list_all (λ constant. has_bits (bits_of unit.word) constant.value) (masks_of unit.writable) ≡ true) × (list_all (λ constant. has_bits (bits_of unit.word) constant.value) (unit.reset ∷ []) ≡ true)
-  parts = all_both (λ constant. has_bits (bits_of unit.word) constant.value) (masks_of unit.writable) (unit.reset ∷ []) constants
-
-  mask_small : (o : Option Writable) → list_all (λ constant. has_bits (bits_of unit.word) constant.value) (masks_of o) ≡ true → unwrap_or (option_map (λ masks. masks.zero_to_modify.value) o) 0 < 2 ^ bits_of unit.word
-  mask_small None all = some_power (bits_of unit.word)
-  mask_small (Some masks) all = ltb-true masks.zero_to_modify.value (2 ^ bits_of unit.word) (both_true (has_bits (bits_of unit.word) masks.zero_to_modify.value) (list_all (λ constant. has_bits (bits_of unit.word) constant.value) (masks.one_to_modify ∷ [])) all).0
-
-  started_small : (base : ℕ) → base < 2 ^ bits_of unit.word → started unit base < 2 ^ bits_of unit.word
-  started_small base small = start_small (bits_of unit.word) base (one_to_modify unit) (zero_to_modify unit) small (mask_small unit.writable parts.0)
-
-  form_small : (writer : Writer) (index : Option ℕ) (method : List ℕ) (value word : ℕ) (form : WriteForm) → word < 2 ^ bits_of unit.word → form_written unit writer index method value word form < 2 ^ bits_of unit.word
-  form_small writer index method value word (write.Bit kind spot) small = written_small (bits_of unit.word) word (spot_at spot index) 1 _ small
-  form_small writer index method value word (write.Field width bits spot) small = written_small (bits_of unit.word) word (spot_at spot index) bits _ small
-
-  writer_small : (index : Option ℕ) (method : List ℕ) (value word : ℕ) (o : Option Writer) → word < 2 ^ bits_of unit.word → writer_written unit index method value word o < 2 ^ bits_of unit.word
-  writer_small index method value word None small = small
-  writer_small index method value word (Some writer) small = form_small writer index method value word writer.form small
-
-  keeps_words : KeepsWords (text_acts unit)
-  unfolding field_written
-  keeps_words = record {
-    reset = ltb-true unit.reset.value (2 ^ bits_of unit.word) (both_true (has_bits (bits_of unit.word) unit.reset.value) true parts.1).0;
-    start = started_small;
-    put = λ field index method value word small. writer_small index method value word (writer_named field unit) small;
-  }
 
 both_here : (o : Option RegisterAt) {P Q : RegisterAt → Type 0} → IfSome o P → IfSome o Q → ((x : RegisterAt) → P x → Q x → InRange (acts_at x)) → IfSome (option_map acts_at o) InRange
 both_here None p q r = tt
@@ -102,18 +63,8 @@ in_range : (krate : CrateTree) → Constants krate → AddressRange krate → (p
 unfolding constants_fit
 in_range krate fit range place =
     both_here (register_at krate place) (range.ends place)
-    (places_are_registers (λ unit. list_all (λ constant. has_bits (bits_of unit.word) constant.value) (constants_of unit)) krate fit.1 place)
+    (places_are_registers register_constants_fit krate fit.1 place)
     (λ found ends constants. record { ends = ends; words = keeps_words found.register constants })
-
--- ---- words
-
-link_small : (acts : Acts) → KeepsWords acts → (names : List Bound) (word : ℕ) (one : Link) → word < 2 ^ bits_of acts.width → link_written acts names word one < 2 ^ bits_of acts.width
-link_small acts keeps names word (link.Bits value) small = mod-lt (number_said (value_of names value)) (some_power (bits_of acts.width))
-link_small acts keeps names word (link.Field field method value) small = keeps.put field.name field.index method (argument names value) word small
-
-chain_small : (acts : Acts) → KeepsWords acts → (names : List Bound) (word : ℕ) (chain : List Link) → word < 2 ^ bits_of acts.width → chain_written acts names word chain < 2 ^ bits_of acts.width
-chain_small acts keeps names word [] small = small
-chain_small acts keeps names word (first ∷ others) small = chain_small acts keeps names (link_written acts names word first) others (link_small acts keeps names word first small)
 
 -- ---- events
 

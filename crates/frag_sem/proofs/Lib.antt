@@ -6,6 +6,7 @@ pub mod Chains
 pub mod Attained
 pub mod CutEnds
 pub mod Rules
+pub mod KeptWords
 pub mod Events
 pub mod Typings
 pub mod Walking

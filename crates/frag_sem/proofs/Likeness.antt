@@ -1,5 +1,5 @@
 -- Where registers do alike, scripts mean the same.
-use Rattle.std.proofs.Common.{ℕ, ◌≡◌, ◌^◌, ◌<◌, Bool, true, false, cond, List, [], ◌∷◌, ◌++◌, drop, filter_map, Option, Some, None, option_map, bytes_eq, refl, ap, ap₂, ◌∙◌, mod-lt}
+use Rattle.std.proofs.Common.{ℕ, ◌≡◌, ◌^◌, ◌<◌, Bool, true, false, cond, List, [], ◌∷◌, ◌++◌, drop, filter_map, Option, Some, None, option_map, bytes_eq, refl, ap, ap₂, ◌∙◌}
 use Rattle.std.specs.Prelude.{⊤}
 use Rattle.std.specs.List.{cons_option}
 use Rattle.pac_base.specs.Widths.{bits_of}
@@ -20,6 +20,7 @@ use Rattle.frag_tree.specs.declared.statement.Value.{Value}
 use Rattle.frag_sem.specs.PreludeWords.{as_bits}
 use Rattle.frag_sem.specs.ScriptTyping.{reader_name}
 use Rattle.frag_sem.specs.Presets.{called_places, preset_of, presets}
+use Rattle.frag_sem.proofs.KeptWords.{link_small}
 use Rattle.frag_sem.proofs.Words.{answer_small, some_power}
 use Rattle.frag_sem.specs.Laws.{AlikeMean, AlikePreset}
 use Rattle.frag_sem.specs.Likeness.{Alike, AlikePlaces, BothAlike, SamePlace}
@@ -97,14 +98,10 @@ link_same one other alike xs ys h word small (link.Bits value) = ap₂ (λ width
 link_same one other alike xs ys h word small (link.Field field method value) =
     alike.put field.name field.index method (argument xs value) word small ∙ ap (λ v. other.put field.name field.index method v word) (argument_same xs ys h value)
 
-link_small : (one other : Acts) → Alike one other → (xs : List Bound) (word : ℕ) → word < 2 ^ bits_of one.width → (l : Link) → link_written one xs word l < 2 ^ bits_of one.width
-link_small one other alike xs word small (link.Bits value) = mod-lt (number_said (value_of xs value)) (some_power (bits_of one.width))
-link_small one other alike xs word small (link.Field field method value) = alike.puts field.name field.index method (argument xs value) word small
-
 chain_same : (one other : Acts) → Alike one other → (xs ys : List Bound) → AlikeNames xs ys → (word : ℕ) → word < 2 ^ bits_of one.width → (chain : List Link) → chain_written one xs word chain ≡ chain_written other ys word chain
 chain_same one other alike xs ys h word small [] = refl
 chain_same one other alike xs ys h word small (l ∷ chain) =
-    chain_same one other alike xs ys h (link_written one xs word l) (link_small one other alike xs word small l) chain
+    chain_same one other alike xs ys h (link_written one xs word l) (link_small one alike.keeps xs word l small) chain
     ∙ ap (λ w. chain_written other ys w chain) (link_same one other alike xs ys h word small l)
 
 -- ---- statements
@@ -159,7 +156,7 @@ module _ (x y : ActsAt) (same : SamePlace x y) (s t : Standing) (st : AlikeStand
   modify_same : (names_reader : Bool) (chain : List Link) → AlikeOutcome (modify_outcome names_reader chain s x) (modify_outcome names_reader chain t y)
   modify_same names_reader chain = record {
     events = ap₂ (λ e f. e ∷ f ∷ []) read_same (write_same _ _
-        (chain_same x.acts y.acts same.acts (names_within names_reader x (answer_for x s) s.names) (names_within names_reader y (answer_for y t) t.names) (within_same names_reader) (x.acts.start (answer_for x s)) (same.acts.starts (answer_for x s) read_small) chain
+        (chain_same x.acts y.acts same.acts (names_within names_reader x (answer_for x s) s.names) (names_within names_reader y (answer_for y t) t.names) (within_same names_reader) (x.acts.start (answer_for x s)) (same.acts.keeps.start (answer_for x s) read_small) chain
         ∙ ap (λ w. chain_written y.acts (names_within names_reader y (answer_for y t) t.names) w chain) (same.acts.start (answer_for x s) read_small ∙ ap y.acts.start answer_same)));
     after = record { answers = ap (drop 1) st.answers; names = st.names };
   }
@@ -171,7 +168,7 @@ outcome_same : (one other : Places) → AlikePlaces one other → (s t : Standin
 unfolding outcome_of
 outcome_same one other alike s t st (statement.Let name place) = at_same (one place) (other place) (alike place) s t st _ _ (λ x y same. let_same x y same s t st name)
 outcome_same one other alike s t st (statement.Write place chain) =
-    at_same (one place) (other place) (alike place) s t st _ _ (λ x y same. put_same x y same s t st chain (x.acts.start x.acts.reset) (y.acts.start y.acts.reset) (same.acts.starts x.acts.reset same.acts.is_word) (same.acts.start x.acts.reset same.acts.is_word ∙ ap y.acts.start same.acts.reset))
+    at_same (one place) (other place) (alike place) s t st _ _ (λ x y same. put_same x y same s t st chain (x.acts.start x.acts.reset) (y.acts.start y.acts.reset) (same.acts.keeps.start x.acts.reset same.acts.keeps.reset) (same.acts.start x.acts.reset same.acts.keeps.reset ∙ ap y.acts.start same.acts.reset))
 outcome_same one other alike s t st (statement.WriteWithZero place chain) =
     at_same (one place) (other place) (alike place) s t st _ _ (λ x y same. put_same x y same s t st chain 0 0 (some_power (bits_of x.acts.width)) refl)
 outcome_same one other alike s t st (statement.Modify place names_reader chain) = at_same (one place) (other place) (alike place) s t st _ _ (λ x y same. modify_same x y same s t st names_reader chain)

@@ -166,9 +166,12 @@ has_bits bits number = nat_lt number (2 ^ bits)
 unfoldable pub constants_have_type : CrateTree → Bool
 constants_have_type krate = list_all (λ unit. list_all (λ constant. same_width constant.width unit.word) (constants_of unit)) (all_registers krate)
 
+abbrev pub register_constants_fit : RegisterModule → Bool
+register_constants_fit unit = list_all (λ constant. has_bits (bits_of unit.word) constant.value) (constants_of unit)
+
 -- Each constant's literal fits `Ux`.
 unfoldable pub constants_fit : CrateTree → Bool
-constants_fit krate = list_all (λ unit. list_all (λ constant. has_bits (bits_of unit.word) constant.value) (constants_of unit)) (all_registers krate)
+constants_fit krate = list_all register_constants_fit (all_registers krate)
 
 -- ---- readers and writers
 

@@ -1,5 +1,5 @@
 -- What the laws of this crate say, each as one statement.
-use Rattle.std.specs.Prelude.{ℕ, ◌≡◌, ◌+◌, ◌*◌, ◌/◌, ◌%◌, ◌^◌, ◌<◌, ◌≤◌, false, List, [], ◌∷◌, ◌++◌, Some, None, ◌↔◌, Decides, Bool, length, drop, map, IfSome, IsSomeAnd, Ok, ⊤, true}
+use Rattle.std.specs.Prelude.{ℕ, ◌≡◌, ◌+◌, ◌*◌, ◌/◌, ◌%◌, ◌^◌, ◌<◌, ◌≤◌, false, List, [], ◌∷◌, ◌++◌, Some, None, ◌↔◌, Decides, Bool, length, drop, map, IfSome, IsSomeAnd, IsTrue, Ok, ⊤, true}
 use Rattle.std.specs.List.{list_all, list_any, AllByRecursion}
 use Rattle.std.specs.Str.{bytes_eq}
 use Rattle.bits_word.specs.Places.{get, put}
@@ -16,7 +16,7 @@ use Rattle.frag_tree.specs.declared.script.Script.{Script}
 use Rattle.frag_tree.specs.declared.statement.Place.{Place}
 use Rattle.frag_tree.specs.Trees.{BlockHead, CrateTree}
 use Rattle.frag_sem.specs.AddressEnds.{addresses_fit, all_tests, cut_addresses_fit}
-use Rattle.frag_sem.specs.CrateTyping.{AddressRange, Constants, CrateFits, DistinctNames, SlotModules, IsTypingFault, TypingKind, first_failed}
+use Rattle.frag_sem.specs.CrateTyping.{AddressRange, Constants, CrateFits, DistinctNames, SlotModules, IsTypingFault, TypingKind, first_failed, register_constants_fit}
 use Rattle.frag_sem.specs.Layout.{Extents, block_extent, end_of, place_named, placed, type_extent}
 use Rattle.frag_sem.specs.CallPlaces.{register_at}
 use Rattle.frag_sem.specs.Modules.{all_registers}
@@ -24,11 +24,11 @@ use Rattle.frag_sem.specs.PlaceTyping.{call_leads, module_fault}
 use Rattle.frag_sem.specs.ScriptTyping.{◌>>=◌, call_types, is_slot, script_fault}
 use Rattle.frag_sem.specs.Surfaces.{RegisterCalls}
 use Rattle.frag_sem.specs.TextSurface.{register_calls, text_surface}
-use Rattle.frag_sem.specs.Likeness.{AlikePlaces}
+use Rattle.frag_sem.specs.Likeness.{AlikePlaces, KeepsWords}
 use Rattle.frag_sem.specs.Meaning.{Places, meaning, next_answer}
 use Rattle.frag_sem.specs.Means.{Means, PresetsAre}
 use Rattle.frag_sem.specs.Presets.{called_places, presets}
-use Rattle.frag_sem.specs.TextMeaning.{text_meaning, text_presets}
+use Rattle.frag_sem.specs.TextMeaning.{text_acts, text_meaning, text_presets}
 use Rattle.frag_sem.specs.PreludeWords.{as_bits, bit_of, is_set, ones, start_word, taken, written}
 
 -- ---- layout
@@ -190,6 +190,10 @@ abbrev pub FittingPresets : Type 0
 FittingPresets = (krate : CrateTree) → CrateFits krate → (script : Script) → script_fault (text_surface krate) script ≡ None → PresetsAre krate (called_places script) (text_presets krate script)
 
 -- ---- likeness
+
+-- A register module whose constants fit its type keeps words of it.
+abbrev pub TextKeepsWords : Type 0
+TextKeepsWords = (unit : RegisterModule) → IsTrue (register_constants_fit unit) → KeepsWords (text_acts unit)
 
 -- Where at each place stand alike registers, or none on both sides, each script has the same events, whatever the answers are.
 abbrev pub AlikeMean : Type 0

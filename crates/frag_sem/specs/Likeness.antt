@@ -4,16 +4,20 @@ use Rattle.pac_base.specs.Widths.{bits_of}
 use Rattle.frag_tree.specs.declared.statement.Place.{Place}
 use Rattle.frag_sem.specs.Meaning.{Acts, ActsAt, Places}
 
--- Both have one width and one reset word, and do the same with each word of this width; and words of the width stay so.
+-- words of a register's width stay words of it
+pub record KeepsWords (acts : Acts) : Type 0 where
+  pub reset : acts.reset < 2 ^ bits_of acts.width
+  pub start : (word : ℕ) → word < 2 ^ bits_of acts.width → acts.start word < 2 ^ bits_of acts.width
+  pub put : (field : List ℕ) (index : Option ℕ) (method : List ℕ) (value word : ℕ) → word < 2 ^ bits_of acts.width → acts.put field index method value word < 2 ^ bits_of acts.width
+
+-- Both have one width and one reset word, and do the same with each word of this width, which stays one.
 pub record Alike (one other : Acts) : Type 0 where
+  pub keeps : KeepsWords one
   pub width : one.width ≡ other.width
   pub reset : one.reset ≡ other.reset
-  pub is_word : one.reset < 2 ^ bits_of one.width
   pub start : (word : ℕ) → word < 2 ^ bits_of one.width → one.start word ≡ other.start word
-  pub starts : (word : ℕ) → word < 2 ^ bits_of one.width → one.start word < 2 ^ bits_of one.width
   pub given : (field : List ℕ) (index : Option ℕ) (method : List ℕ) (word : ℕ) → word < 2 ^ bits_of one.width → one.given field index method word ≡ other.given field index method word
   pub put : (field : List ℕ) (index : Option ℕ) (method : List ℕ) (value word : ℕ) → word < 2 ^ bits_of one.width → one.put field index method value word ≡ other.put field index method value word
-  pub puts : (field : List ℕ) (index : Option ℕ) (method : List ℕ) (value word : ℕ) → word < 2 ^ bits_of one.width → one.put field index method value word < 2 ^ bits_of one.width
 
 -- alike registers at one address
 pub record SamePlace (one other : ActsAt) : Type 0 where

@@ -1,5 +1,5 @@
 // The laws of layouts and of the words that readers and writers make.
-ghost use Rattle.frag_sem.specs.Laws.{AlikeMean, AlikePreset, BitReaderGets, CallsAreThere, CallsByModules, CutEndsDecide, EndsDecide, EndsGrow, EventsAreFew, EventsInRange, FaultsByModules, FieldsAligned, FieldsApart, FitsByTests, FittingMeans, FittingPresets, MeansOne, PlaceBehindEnd, PlaceBehindGap, PlacesAreRegisters, PresetsInRange, ReaderGets, ReadsAreAnswered, ReadsWritten, RefusedByTests, SizeReaches, SlotsByName, StartStays, StartWithoutMasks, StartWordIsStart, VersionKeeps, WriterPuts, WrittenStays};
+ghost use Rattle.frag_sem.specs.Laws.{AlikeMean, AlikePreset, BitReaderGets, CallsAreThere, CallsByModules, CutEndsDecide, EndsDecide, EndsGrow, EventsAreFew, EventsInRange, FaultsByModules, FieldsAligned, FieldsApart, FitsByTests, FittingMeans, FittingPresets, MeansOne, PlaceBehindEnd, PlaceBehindGap, PlacesAreRegisters, PresetsInRange, ReaderGets, ReadsAreAnswered, ReadsWritten, RefusedByTests, SizeReaches, SlotsByName, StartStays, StartWithoutMasks, StartWordIsStart, TextKeepsWords, VersionKeeps, WriterPuts, WrittenStays};
 
 /// Where the fields of a struct stand: behind a gap that ends at a multiple of the alignment, there; and
 /// no two of them share a byte.
@@ -58,8 +58,9 @@ pub fn fitting_law()
 {}
 
 /// A script means the same, and has the same presets, wherever alike registers stand at each place: what a
-/// register does with words is all that counts of it.
+/// register does with words is all that counts of it. A register module whose constants fit keeps words.
 pub fn likeness_law()
+    ensures words { TextKeepsWords }
     ensures meaning { AlikeMean }
     ensures presets { AlikePreset }
 {}
