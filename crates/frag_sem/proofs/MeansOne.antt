@@ -1,5 +1,5 @@
 -- What a script means with nothing missing is its meaning.
-use Rattle.std.proofs.Common.{ℕ, ◌≡◌, Bool, true, false, cond, List, [], ◌∷◌, ◌++◌, map, find, drop, Option, Some, None, option_map, bytes_eq, refl, sym, ap, ap₂, ◌∙◌, mod-eq_of_lt}
+use Rattle.std.proofs.Common.{ℕ, ◌≡◌, Bool, true, false, cond, List, [], ◌∷◌, ◌++◌, map, find, drop, Option, Some, None, option_map, bytes_eq, refl, sym, ap, ap₂, ◌∙◌, mod-eq_of_lt, mul-le-mul_right, mul_comm, arith, ◌-◌, ◌*◌, ◌≤◌, ◌<◌}
 use Rattle.std.specs.Prelude.{codes, if◌then◌else◌, unwrap_or, IsSomeAnd}
 use Rattle.pac_base.specs.Widths.{bits_of}
 use Rattle.pac_base.specs.declared.width.Width.{Width}
@@ -33,7 +33,7 @@ use Rattle.frag_tree.specs.declared.statement.Statement.TheVariants as statement
 use Rattle.frag_tree.specs.declared.statement.Value.{Value}
 use Rattle.frag_tree.specs.Trees.{CrateTree}
 use Rattle.frag_sem.specs.CallPlaces.{RegisterAt, register_at}
-use Rattle.frag_sem.specs.Laws.{MeansOne}
+use Rattle.frag_sem.specs.Laws.{MeansOne, MembersLieLower}
 use Rattle.frag_sem.specs.Meaning.{ActsAt, Bound, Outcome, Standing, argument, at_place, atom_value, bits_of_bound, bound_as, chain_written, events_then, field_of_bound, let_outcome, lines_meaning, link_written, meaning, modify_outcome, names_within, negated, number_said, outcome_of, reset_outcome, source_value, value_of, write_outcome}
 use Rattle.frag_sem.specs.Means.{AtomIs, BitTakes, BitsTake, ChainMakes, CompareGives, FieldGives, FormGives, FormMakes, Held, Known, LinesMean, LinkMakes, Means, Negated, SourceIs, SpotIs, StatementMeans, TestGives, ValueIs, answer_at, held_as, held_within, start_of}
 use Rattle.frag_sem.specs.PreludeCalls.{bit_tests, bit_writes}
@@ -64,6 +64,15 @@ spot_is (spot.Fixed place) None at h = h
 spot_is (spot.Fixed place) (Some index) at h = absurd h
 spot_is (spot.Indexed offset step count) None at h = absurd h
 spot_is (spot.Indexed offset step count) (Some index) at h = h.1
+
+pub members_lie_lower : MembersLieLower
+members_lie_lower (spot.Fixed place) None at h = omega (arith, h)
+members_lie_lower (spot.Fixed place) (Some index) at h = absurd h
+members_lie_lower (spot.Indexed offset step count) None at h = absurd h
+members_lie_lower (spot.Indexed offset step count) (Some index) at h =
+    let below : index < count = h.0 in
+    let earlier : index * step ≤ (count - 1) * step = mul-le-mul_right step (omega arith) in
+    omega (arith, h.1, mul_comm (count - 1) step)
 
 test_is : (plain : Bool) (call : Option TruthCall) (bit : Bool) (said : Said) → TestGives plain call bit said → (if plain then Truth bit else compared_truth bit call) ≡ said
 test_is true call bit said h = sym h

@@ -1,5 +1,5 @@
 -- What the laws of this crate say, each as one statement.
-use Rattle.std.specs.Prelude.{ℕ, ◌≡◌, ◌+◌, ◌*◌, ◌/◌, ◌%◌, ◌^◌, ◌<◌, ◌≤◌, false, List, [], ◌∷◌, ◌++◌, Some, None, ◌↔◌, Decides, Bool, length, drop, map, IfSome, IsSomeAnd, IsTrue, Ok, ⊤, true}
+use Rattle.std.specs.Prelude.{ℕ, ◌≡◌, ◌+◌, ◌*◌, ◌/◌, ◌%◌, ◌^◌, ◌<◌, ◌≤◌, false, List, [], ◌∷◌, ◌++◌, Some, None, ◌↔◌, Decides, Bool, length, drop, map, Option, IfSome, IsSomeAnd, IsTrue, Ok, ⊤, true}
 use Rattle.std.specs.List.{list_all, list_any, AllByRecursion}
 use Rattle.std.specs.Str.{bytes_eq}
 use Rattle.bits_word.specs.Places.{get, put}
@@ -12,6 +12,7 @@ use Rattle.frag_tree.specs.declared.event.Event.{Event}
 use Rattle.frag_tree.specs.declared.event.Event.TheVariants as event
 use Rattle.frag_tree.specs.declared.krate.Version.{Version}
 use Rattle.frag_tree.specs.declared.register.RegisterModule.{RegisterModule}
+use Rattle.frag_tree.specs.declared.register.Spot.{Spot}
 use Rattle.frag_tree.specs.declared.script.Script.{Script}
 use Rattle.frag_tree.specs.declared.statement.Place.{Place}
 use Rattle.frag_tree.specs.Trees.{BlockHead, CrateTree}
@@ -23,10 +24,11 @@ use Rattle.frag_sem.specs.Modules.{all_registers}
 use Rattle.frag_sem.specs.PlaceTyping.{call_leads, module_fault}
 use Rattle.frag_sem.specs.ScriptTyping.{◌>>=◌, call_types, is_slot, script_fault}
 use Rattle.frag_sem.specs.Surfaces.{RegisterCalls}
+use Rattle.frag_sem.specs.Spots.{last_spot}
 use Rattle.frag_sem.specs.TextSurface.{register_calls, text_surface}
 use Rattle.frag_sem.specs.Likeness.{AlikePlaces, KeepsWords}
 use Rattle.frag_sem.specs.Meaning.{Places, meaning, next_answer}
-use Rattle.frag_sem.specs.Means.{Means, PresetsAre}
+use Rattle.frag_sem.specs.Means.{Means, PresetsAre, SpotIs}
 use Rattle.frag_sem.specs.Presets.{called_places, presets}
 use Rattle.frag_sem.specs.TextMeaning.{text_acts, text_meaning, text_presets}
 use Rattle.frag_sem.specs.PreludeWords.{as_bits, bit_of, is_set, ones, start_word, taken, written}
@@ -127,6 +129,10 @@ EndsDecide = (krate : CrateTree) → DistinctNames krate → Decides (addresses_
 -- Ends that are cut at 2^64 + 1 decide the same.
 abbrev pub CutEndsDecide : Type 0
 CutEndsDecide = (krate : CrateTree) → cut_addresses_fit krate ≡ addresses_fit krate
+
+-- Each member of a field lies where the last one does, or lower: so the rules on readers and writers, which test the last one, speak of all.
+abbrev pub MembersLieLower : Type 0
+MembersLieLower = (spot : Spot) (index : Option ℕ) (at : ℕ) → SpotIs spot index at → at ≤ last_spot spot
 
 -- ---- events
 

@@ -1,5 +1,5 @@
 // The laws of layouts and of the words that readers and writers make.
-ghost use Rattle.frag_sem.specs.Laws.{AlikeMean, AlikePreset, BitReaderGets, CallsAreThere, CallsByModules, CutEndsDecide, EndsDecide, EndsGrow, EventsAreFew, EventsInRange, FaultsByModules, FieldsAligned, FieldsApart, FitsByTests, FittingMeans, FittingPresets, MeansOne, PlaceBehindEnd, PlaceBehindGap, PlacesAreRegisters, PresetsInRange, ReaderGets, ReadsAreAnswered, ReadsWritten, RefusedByTests, SizeReaches, SlotsByName, StartStays, StartWithoutMasks, StartWordIsStart, TextKeepsWords, VersionKeeps, WriterPuts, WrittenStays};
+ghost use Rattle.frag_sem.specs.Laws.{AlikeMean, AlikePreset, BitReaderGets, CallsAreThere, CallsByModules, CutEndsDecide, EndsDecide, EndsGrow, EventsAreFew, EventsInRange, FaultsByModules, FieldsAligned, FieldsApart, FitsByTests, FittingMeans, FittingPresets, MeansOne, MembersLieLower, PlaceBehindEnd, PlaceBehindGap, PlacesAreRegisters, PresetsInRange, ReaderGets, ReadsAreAnswered, ReadsWritten, RefusedByTests, SizeReaches, SlotsByName, StartStays, StartWithoutMasks, StartWordIsStart, TextKeepsWords, VersionKeeps, WriterPuts, WrittenStays};
 
 /// Where the fields of a struct stand: behind a gap that ends at a multiple of the alignment, there; and
 /// no two of them share a byte.
@@ -36,6 +36,7 @@ pub fn typing_law()
     ensures refused { RefusedByTests }
     ensures ends { EndsDecide }
     ensures cut_ends { CutEndsDecide }
+    ensures members { MembersLieLower }
 {}
 
 /// Each read of a script has the next answer. The events of a script and the presets before it are accesses
