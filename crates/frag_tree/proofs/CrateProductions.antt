@@ -8,6 +8,8 @@ use Rattle.frag_words.specs.Lines.{line_words, lines_words, text}
 use Rattle.frag_words.specs.Readings.{IsExact, then_read, expected}
 use Rattle.frag_words.specs.Words.{Word, words_in, words_behind}
 use Rattle.frag_words.proofs.Readings.{given, both, both_left, both_right, some_is, then_some, expected-append, expected_some}
+use Rattle.frag_tree.specs.Phrases.{words_of, says}
+use Rattle.frag_tree.specs.declared.phrase.Phrase.TheVariants as phrase
 use Rattle.frag_tree.specs.declared.krate.Slot.{Slot}
 use Rattle.frag_tree.specs.Blocks.{opening_lines}
 use Rattle.frag_tree.specs.Crates.{slot_line, slots_lines, top_lines, crate_lines, crate_words}
@@ -93,7 +95,7 @@ pub crate_words-are : (krate : CrateTree) → crate_words krate ≡ crate_head +
 unfolding crate_lines slot_reading words_behind
 crate_words-are krate =
     flat_map-append line_words (slots_lines krate.slots) (flat_map top_lines krate.blocks)
-    ∙ ap₂ (λ xs ys. (words_in (codes "use crate::generic::*;") ++ xs) ++ ys) (braced_words 0 (text (codes "pub struct Peripherals {") ∷ []) (slot_line 1) krate.slots) (tops_words krate.blocks)
+    ∙ ap₂ (λ xs ys. (words_of phrase.UsePrelude ++ xs) ++ ys) (braced_words 0 (says phrase.OpensPeripherals ∷ []) (slot_line 1) krate.slots) (tops_words krate.blocks)
 
 crate_valid : (krate : CrateTree) → valid_crate krate ≡ true → (slots_reading.is_valid krate.slots ≡ true) × (list_all valid_block krate.blocks ≡ true)
 unfolding slot_reading

@@ -14,6 +14,8 @@ use Rattle.frag_words.specs.Words.{Word, words_in}
 use Rattle.frag_words.specs.Joined.{is_run, is_joined, Runs, IsFine, AreFine}
 use Rattle.frag_words.proofs.Joints.{words_of_lines, fine-append, fine-map, fine-flat_map}
 use Rattle.frag_words.proofs.Readings.{both, both_left, both_right}
+use Rattle.frag_tree.specs.Phrases.{text_of, says}
+use Rattle.frag_tree.specs.declared.phrase.Phrase.TheVariants as phrase
 use Rattle.frag_tree.specs.declared.access.Access.{Access}
 use Rattle.frag_tree.specs.declared.access.Body.{Body}
 use Rattle.frag_tree.specs.declared.access.Body.TheVariants as body
@@ -128,18 +130,18 @@ element_runs (element.Block unit) valid = (identifier_run unit valid, tt)
 
 type_runs : (holds : FieldType) → valid_type holds ≡ true → Runs (type_pieces holds)
 type_runs (holds.One element) valid = element_runs element valid
-type_runs (holds.Array element count) valid = runs-append (element_pieces element) (text (codes "; ") ∷ decimal count ∷ text (codes "]") ∷ []) (element_runs element (both_left (valid_element element) (is_number count) valid)) (decimal_run count (both_right (valid_element element) (is_number count) valid), tt)
+type_runs (holds.Array element count) valid = runs-append (element_pieces element) (says phrase.Semicolon ∷ decimal count ∷ says phrase.ClosesArray ∷ []) (element_runs element (both_left (valid_element element) (is_number count) valid)) (decimal_run count (both_right (valid_element element) (is_number count) valid), tt)
 type_runs (holds.Gap bytes) valid = (decimal_run bytes valid, tt)
 
-array_joined : (name : Word) (element : Element) (count : ℕ) → is_joined (word name ∷ text (codes ": ") ∷ (array_pieces element count ++ text (codes ",") ∷ [])) ≡ true
+array_joined : (name : Word) (element : Element) (count : ℕ) → is_joined (word name ∷ says phrase.Colon ∷ (array_pieces element count ++ says phrase.Comma ∷ [])) ≡ true
 array_joined name (element.Register unit) count = refl
 array_joined name (element.Block unit) count = refl
 
-one_joined : (name : Word) (element : Element) → is_joined (word name ∷ text (codes ": ") ∷ (element_pieces element ++ text (codes ",") ∷ [])) ≡ true
+one_joined : (name : Word) (element : Element) → is_joined (word name ∷ says phrase.Colon ∷ (element_pieces element ++ says phrase.Comma ∷ [])) ≡ true
 one_joined name (element.Register unit) = refl
 one_joined name (element.Block unit) = refl
 
-type_joined : (name : Word) (holds : FieldType) → is_joined (word name ∷ text (codes ": ") ∷ (type_pieces holds ++ text (codes ",") ∷ [])) ≡ true
+type_joined : (name : Word) (holds : FieldType) → is_joined (word name ∷ says phrase.Colon ∷ (type_pieces holds ++ says phrase.Comma ∷ [])) ≡ true
 type_joined name (holds.One element) = one_joined name element
 type_joined name (holds.Array element count) = array_joined name element count
 type_joined name (holds.Gap bytes) = refl
@@ -147,7 +149,7 @@ type_joined name (holds.Gap bytes) = refl
 field_fine : (depth : ℕ) (field : StructField) → valid_field field ≡ true → IsFine (field_line depth field)
 field_fine depth field valid = record {
   joined = type_joined field.name field.holds;
-  runs = (identifier_run field.name (both_left (is_identifier field.name) (valid_type field.holds) valid), runs-append (type_pieces field.holds) (text (codes ",") ∷ []) (type_runs field.holds (both_right (is_identifier field.name) (valid_type field.holds) valid)) tt);
+  runs = (identifier_run field.name (both_left (is_identifier field.name) (valid_type field.holds) valid), runs-append (type_pieces field.holds) (says phrase.Comma ∷ []) (type_runs field.holds (both_right (is_identifier field.name) (valid_type field.holds) valid)) tt);
 }
 
 body_runs : (body : Body) → valid_body body ≡ true → Runs (body_pieces body)
@@ -158,7 +160,7 @@ body_runs (body.AtIndex offset stride count) valid =
     let more = both_right (is_number offset) (is_number stride && is_number count) valid in
     (hexadecimal_run offset, (decimal_run stride (both_left (is_number stride) (is_number count) more), (decimal_run count (both_right (is_number stride) (is_number count) more), tt)))
 
-access_joined : (name : Word) (is_indexed : Bool) (element : Element) (body : Body) → is_joined (text (codes "pub fn ") ∷ word name ∷ text (index_text is_indexed) ∷ (element_pieces element ++ text (codes " { ") ∷ (body_pieces body ++ text (codes " }") ∷ []))) ≡ true
+access_joined : (name : Word) (is_indexed : Bool) (element : Element) (body : Body) → is_joined (says phrase.PubFn ∷ word name ∷ text (index_text is_indexed) ∷ (element_pieces element ++ says phrase.OpensBody ∷ (body_pieces body ++ says phrase.ClosesBody ∷ []))) ≡ true
 access_joined name true (element.Register unit) (body.Field f) = refl
 access_joined name true (element.Register unit) (body.Member f) = refl
 access_joined name true (element.Register unit) (body.At offset) = refl
@@ -183,8 +185,8 @@ access_fine depth access valid =
       joined = access_joined access.name access.is_indexed access.element access.body;
       runs = (
         identifier_run access.name (both_left (is_identifier access.name) (valid_element access.element && valid_body access.body) valid),
-        runs-append (element_pieces access.element) (text (codes " { ") ∷ (body_pieces access.body ++ text (codes " }") ∷ [])) (element_runs access.element (both_left (valid_element access.element) (valid_body access.body) more))
-            (runs-append (body_pieces access.body) (text (codes " }") ∷ []) (body_runs access.body (both_right (valid_element access.element) (valid_body access.body) more)) tt),
+        runs-append (element_pieces access.element) (says phrase.OpensBody ∷ (body_pieces access.body ++ says phrase.ClosesBody ∷ [])) (element_runs access.element (both_left (valid_element access.element) (valid_body access.body) more))
+            (runs-append (body_pieces access.body) (says phrase.ClosesBody ∷ []) (body_runs access.body (both_right (valid_element access.element) (valid_body access.body) more)) tt),
       );
     }
 
@@ -238,11 +240,11 @@ writer_fine depth writer valid =
 
 -- ---- lists in braces
 
-closing_fine : (depth : ℕ) → AreFine (fixed depth (codes "}") ∷ [])
+closing_fine : (depth : ℕ) → AreFine (fixed depth (text_of phrase.Closer) ∷ [])
 closing_fine depth = (record { joined = refl; runs = tt }, tt)
 
 braced_fine : (depth : ℕ) (opening : List Piece) (within : List Line) → is_joined opening ≡ true → Runs opening → AreFine within → AreFine (braced depth opening within)
-braced_fine depth opening within joined runs fine = (record { joined = joined; runs = runs }, fine-append within (fixed depth (codes "}") ∷ []) fine (closing_fine depth))
+braced_fine depth opening within joined runs fine = (record { joined = joined; runs = runs }, fine-append within (fixed depth (text_of phrase.Closer) ∷ []) fine (closing_fine depth))
 
 -- ---- values
 
@@ -281,11 +283,11 @@ readable_fine depth false = tt
 
 readers_fine : (depth : ℕ) (readers : Option (List Reader)) → valid_option (list_all valid_reader) readers ≡ true → AreFine (readers_lines depth readers)
 readers_fine depth None valid = tt
-readers_fine depth (Some calls) valid = braced_fine depth (text (codes "impl R<Spec> {") ∷ []) (map (reader_line (depth + 1)) calls) refl tt (fine-map valid_reader (reader_line (depth + 1)) (reader_fine (depth + 1)) calls valid)
+readers_fine depth (Some calls) valid = braced_fine depth (says phrase.ReadersImpl ∷ []) (map (reader_line (depth + 1)) calls) refl tt (fine-map valid_reader (reader_line (depth + 1)) (reader_fine (depth + 1)) calls valid)
 
 writers_fine : (depth : ℕ) (writers : Option (List Writer)) → valid_option (list_all valid_writer) writers ≡ true → AreFine (writers_lines depth writers)
 writers_fine depth None valid = tt
-writers_fine depth (Some calls) valid = braced_fine depth (text (codes "impl W<Spec> {") ∷ []) (map (writer_line (depth + 1)) calls) refl tt (fine-map valid_writer (writer_line (depth + 1)) (writer_fine (depth + 1)) calls valid)
+writers_fine depth (Some calls) valid = braced_fine depth (says phrase.WritersImpl ∷ []) (map (writer_line (depth + 1)) calls) refl tt (fine-map valid_writer (writer_line (depth + 1)) (writer_fine (depth + 1)) calls valid)
 
 register_fine : (depth : ℕ) (unit : RegisterModule) → valid_register unit ≡ true → AreFine (register_lines depth unit)
 unfolding valid_register register_lines
@@ -314,7 +316,7 @@ register_fine depth unit valid =
     let fine_markers = fine-append markers (readers ++ (writers ++ values)) (fine-map is_identifier (marker_line d) (marker_fine d) unit.markers of_markers) fine_readers in
     let fine_writable = fine-append writable (reset_line d unit.reset ∷ (markers ++ (readers ++ (writers ++ values)))) (writable_fine d unit.writable) (reset_fine d unit.reset, fine_markers) in
     let fine_readable = fine-append readable (writable ++ (reset_line d unit.reset ∷ (markers ++ (readers ++ (writers ++ values))))) (readable_fine d unit.readable) fine_writable in
-    braced_fine depth (text (codes "pub mod ") ∷ word unit.name ∷ text (codes " {") ∷ []) (part_lines d unit) refl (identifier_run unit.name name, tt)
+    braced_fine depth (says phrase.PubMod ∷ word unit.name ∷ says phrase.OpensModule ∷ []) (part_lines d unit) refl (identifier_run unit.name name, tt)
     (record { joined = refl; runs = tt }, (record { joined = refl; runs = tt }, (record { joined = refl; runs = (width_run unit.word, tt) }, fine_readable)))
 
 -- ---- block modules
@@ -328,8 +330,8 @@ opening_fine depth head valid =
       (
         record { joined = refl; runs = tt },
         fine-append (struct_lines d head.fields) (accessor_lines d head.accessors)
-            (record { joined = refl; runs = tt }, braced_fine d (text (codes "pub struct RegisterBlock {") ∷ []) (map (field_line (d + 1)) head.fields) refl tt (fine-map valid_field (field_line (d + 1)) (field_fine (d + 1)) head.fields (both_left (list_all valid_field head.fields) (list_all valid_access head.accessors) more)))
-            (braced_fine d (text (codes "impl RegisterBlock {") ∷ []) (map (access_line (d + 1)) head.accessors) refl tt (fine-map valid_access (access_line (d + 1)) (access_fine (d + 1)) head.accessors (both_right (list_all valid_field head.fields) (list_all valid_access head.accessors) more))),
+            (record { joined = refl; runs = tt }, braced_fine d (says phrase.OpensStruct ∷ []) (map (field_line (d + 1)) head.fields) refl tt (fine-map valid_field (field_line (d + 1)) (field_fine (d + 1)) head.fields (both_left (list_all valid_field head.fields) (list_all valid_access head.accessors) more)))
+            (braced_fine d (says phrase.BlockImpl ∷ []) (map (access_line (d + 1)) head.accessors) refl tt (fine-map valid_access (access_line (d + 1)) (access_fine (d + 1)) head.accessors (both_right (list_all valid_field head.fields) (list_all valid_access head.accessors) more))),
       ),
     )
 
@@ -340,16 +342,16 @@ modules_fine depth (register unit others) valid =
     fine-append (register_lines depth unit) (modules_lines depth others) (register_fine depth unit (both_left (valid_register unit) (valid_modules others) valid)) (modules_fine depth others (both_right (valid_register unit) (valid_modules others) valid))
 modules_fine depth (block head inside others) valid =
     let more = both_right (valid_head head) (valid_modules inside && valid_modules others) valid in
-    fine-append (opening_lines depth head ++ (modules_lines (depth + 1) inside ++ fixed depth (codes "}") ∷ [])) (modules_lines depth others)
-    (fine-append (opening_lines depth head) (modules_lines (depth + 1) inside ++ fixed depth (codes "}") ∷ []) (opening_fine depth head (both_left (valid_head head) (valid_modules inside && valid_modules others) valid))
-    (fine-append (modules_lines (depth + 1) inside) (fixed depth (codes "}") ∷ []) (modules_fine (depth + 1) inside (both_left (valid_modules inside) (valid_modules others) more)) (closing_fine depth)))
+    fine-append (opening_lines depth head ++ (modules_lines (depth + 1) inside ++ fixed depth (text_of phrase.Closer) ∷ [])) (modules_lines depth others)
+    (fine-append (opening_lines depth head) (modules_lines (depth + 1) inside ++ fixed depth (text_of phrase.Closer) ∷ []) (opening_fine depth head (both_left (valid_head head) (valid_modules inside && valid_modules others) valid))
+    (fine-append (modules_lines (depth + 1) inside) (fixed depth (text_of phrase.Closer) ∷ []) (modules_fine (depth + 1) inside (both_left (valid_modules inside) (valid_modules others) more)) (closing_fine depth)))
     (modules_fine depth others (both_right (valid_modules inside) (valid_modules others) more))
 
 block_fine : (unit : BlockTree) → valid_block unit ≡ true → AreFine (top_lines unit)
 block_fine unit valid = (
   record { joined = refl; runs = tt },
-  fine-append (opening_lines 0 unit.head) (modules_lines 1 unit.inside ++ fixed 0 (codes "}") ∷ []) (opening_fine 0 unit.head (both_left (valid_head unit.head) (valid_modules unit.inside) valid))
-      (fine-append (modules_lines 1 unit.inside) (fixed 0 (codes "}") ∷ []) (modules_fine 1 unit.inside (both_right (valid_head unit.head) (valid_modules unit.inside) valid)) (closing_fine 0)),
+  fine-append (opening_lines 0 unit.head) (modules_lines 1 unit.inside ++ fixed 0 (text_of phrase.Closer) ∷ []) (opening_fine 0 unit.head (both_left (valid_head unit.head) (valid_modules unit.inside) valid))
+      (fine-append (modules_lines 1 unit.inside) (fixed 0 (text_of phrase.Closer) ∷ []) (modules_fine 1 unit.inside (both_right (valid_head unit.head) (valid_modules unit.inside) valid)) (closing_fine 0)),
 )
 
 -- ---- the crate
@@ -358,7 +360,7 @@ crate_fine : (krate : CrateTree) → valid_crate krate ≡ true → AreFine (cra
 unfolding crate_lines
 crate_fine krate valid =
     fine-append (slots_lines krate.slots) (flat_map top_lines krate.blocks)
-    (record { joined = refl; runs = tt }, (record { joined = refl; runs = tt }, braced_fine 0 (text (codes "pub struct Peripherals {") ∷ []) (map (slot_line 1) krate.slots) refl tt (fine-map valid_slot (slot_line 1) (slot_fine 1) krate.slots (both_left (list_all valid_slot krate.slots) (list_all valid_block krate.blocks) valid))))
+    (record { joined = refl; runs = tt }, (record { joined = refl; runs = tt }, braced_fine 0 (says phrase.OpensPeripherals ∷ []) (map (slot_line 1) krate.slots) refl tt (fine-map valid_slot (slot_line 1) (slot_fine 1) krate.slots (both_left (list_all valid_slot krate.slots) (list_all valid_block krate.blocks) valid))))
     (fine-flat_map valid_block top_lines block_fine krate.blocks (both_right (list_all valid_slot krate.slots) (list_all valid_block krate.blocks) valid))
 
 -- The words of the printed form of a valid crate are those of its productions.

@@ -10,6 +10,8 @@ use Rattle.frag_words.specs.Readings.{IsExact, then_read, expected, pair, mapped
 use Rattle.frag_words.specs.Words.{Word, words_in, words_behind}
 use Rattle.frag_words.proofs.Readings.{Tells, given, both, both_left, both_right, some_is, then_some, expected_some, behind_exact, pair_exact, mapped_exact, either_exact}
 use Rattle.frag_words.proofs.Further.{restated_exact, list_until_exact}
+use Rattle.frag_tree.specs.Phrases.{text_of, words_of, says}
+use Rattle.frag_tree.specs.declared.phrase.Phrase.TheVariants as phrase
 use Rattle.frag_tree.specs.declared.access.Access.{Access}
 use Rattle.frag_tree.specs.declared.block.StructField.{StructField}
 use Rattle.frag_tree.specs.declared.register.RegisterModule.{RegisterModule}
@@ -34,7 +36,7 @@ field_first field rest valid = ap not (not_word field.name (codes "}") (both_lef
 
 fields_exact : IsExact (List StructField) fields_reading
 unfolding fields_reading field_reading words_behind
-fields_exact = list_until_exact (λ text. not (word_is 0 (codes "}") text)) field_reading (words_in (codes "}"))
+fields_exact = list_until_exact (λ text. not (word_is 0 (codes "}") text)) field_reading (words_of phrase.Closer)
     (record { tells = record { yes = field_first; no_other = λ tree rest valid. refl }; some = λ tree valid. one_word tree.name (drop 1 (field_reading.words tree)) })
     field_exact
 
@@ -44,17 +46,17 @@ accessors_exact = until_brace access_reading (λ tree rest. refl) access_exact
 
 head_raw_exact : IsExact (Word × (List StructField × List Access)) head_raw
 unfolding head_raw
-head_raw_exact = behind_exact (words_in (codes "pub mod ")) _ (pair_exact identifier _ identifier_exact (behind_exact struct_head _ (pair_exact fields_reading _ fields_exact (behind_exact (words_in (codes "impl RegisterBlock {")) (calls_until access_reading) accessors_exact))))
+head_raw_exact = behind_exact (words_of phrase.PubMod) _ (pair_exact identifier _ identifier_exact (behind_exact struct_head _ (pair_exact fields_reading _ fields_exact (behind_exact (words_of phrase.BlockImpl) (calls_until access_reading) accessors_exact))))
 
 -- the words of a head at any depth
 opening_lines-words : (depth : ℕ) (head : BlockHead) → lines_words (opening_lines depth head) ≡ head_raw.words (head_parts head)
 unfolding opening_lines head_raw fields_reading field_reading access_reading words_behind
 opening_lines-words depth head =
-    ap (λ xs. words_in (codes "pub mod ") ++ ((head.name ∷ []) ++ (words_in (codes " { use crate::generic::*; #[repr(C)]") ++ xs)))
-    (flat_map-append line_words (braced (depth + 1) (text (codes "pub struct RegisterBlock {") ∷ []) (map (field_line (depth + 1 + 1)) head.fields)) (accessor_lines (depth + 1) head.accessors)
+    ap (λ xs. words_of phrase.PubMod ++ ((head.name ∷ []) ++ (words_in (codes " { use crate::generic::*; #[repr(C)]") ++ xs)))
+    (flat_map-append line_words (braced (depth + 1) (says phrase.OpensStruct ∷ []) (map (field_line (depth + 1 + 1)) head.fields)) (accessor_lines (depth + 1) head.accessors)
     ∙ ap₂ (λ xs ys. xs ++ ys)
-    (braced_words (depth + 1) (text (codes "pub struct RegisterBlock {") ∷ []) (field_line (depth + 1 + 1)) head.fields)
-    (braced_words (depth + 1) (text (codes "impl RegisterBlock {") ∷ []) (access_line (depth + 1 + 1)) head.accessors))
+    (braced_words (depth + 1) (says phrase.OpensStruct ∷ []) (field_line (depth + 1 + 1)) head.fields)
+    (braced_words (depth + 1) (says phrase.BlockImpl ∷ []) (access_line (depth + 1 + 1)) head.accessors))
 
 head_valid : (head : BlockHead) → valid_head head ≡ head_raw.is_valid (head_parts head)
 unfolding head_raw fields_reading field_reading access_reading
@@ -67,7 +69,7 @@ head_exact = restated_exact head_words valid_head (mapped head_of head_parts hea
 -- ---- the words of modules
 
 abbrev closer : List Word
-closer = words_in (codes "}")
+closer = words_of phrase.Closer
 
 -- the words of modules, module by module
 tokens : Modules → List Word
@@ -84,10 +86,10 @@ head_depth depth head = opening_lines-words depth head ∙ sym (opening_lines-wo
 -- a block, of whose inside the words are known
 block_lines-words : (depth : ℕ) (head : BlockHead) (inside : List Line) (words : List Word) → lines_words inside ≡ words → lines_words (block_lines depth head inside) ≡ head_words head ++ (words ++ closer)
 block_lines-words depth head inside words are =
-    flat_map-append line_words (opening_lines depth head) (inside ++ fixed depth (codes "}") ∷ [])
+    flat_map-append line_words (opening_lines depth head) (inside ++ fixed depth (text_of phrase.Closer) ∷ [])
     ∙ ap₂ (λ xs ys. xs ++ ys) (head_depth depth head)
-    (flat_map-append line_words inside (fixed depth (codes "}") ∷ [])
-    ∙ ap₂ (λ xs ys. xs ++ ys) are (append-nil (line_words (fixed depth (codes "}"))) ∙ append-nil closer))
+    (flat_map-append line_words inside (fixed depth (text_of phrase.Closer) ∷ [])
+    ∙ ap₂ (λ xs ys. xs ++ ys) are (append-nil (line_words (fixed depth (text_of phrase.Closer))) ∙ append-nil closer))
 
 modules_lines-words : (depth : ℕ) (modules : Modules) → lines_words (modules_lines depth modules) ≡ tokens modules
 unfolding modules_lines tokens

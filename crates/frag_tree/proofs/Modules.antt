@@ -10,6 +10,8 @@ use Rattle.pac_io.specs.WrittenUpTo.{WrittenUpTo}
 use Rattle.pac_io.specs.Writing.{AppendsPrefix, WritesUpTo}
 use Rattle.pac_io.specs.declared.fault.SinkFault.{SinkFault}
 use Rattle.pac_io.proofs.WrittenUpTo.{begun, page_went_on, page_broke_off, run_up_to}
+use Rattle.frag_tree.specs.Phrases.{text_of}
+use Rattle.frag_tree.specs.declared.phrase.Phrase.TheVariants as phrase
 use Rattle.frag_tree.specs.declared.block.Block.{Block, out-Block}
 use Rattle.frag_tree.proofs.Trees.{block_tree-is}
 use Rattle.frag_tree.specs.declared.block.Module.{Module}
@@ -28,7 +30,7 @@ pub record PrintedUpTo (old now : Option (List ℕ)) (faults count : ℕ) (all p
 
 -- the line that ends a block
 abbrev pub closing : ℕ → List ℕ
-closing depth = line_text (fixed depth (codes "}"))
+closing depth = line_text (fixed depth (text_of phrase.Closer))
 
 -- the modules inside a block
 abbrev pub inner : ℕ → BlockTree → List ℕ
@@ -37,7 +39,7 @@ inner depth tree = lines_text (modules_lines (depth + 1) tree.inside)
 -- what is still to come behind the opening of a block
 pub behind_opening : (depth : ℕ) (tree : BlockTree) (old page : List ℕ) → page ≡ old ++ lines_text (opening_lines depth tree.head) → old ++ lines_text (block_tree_lines depth tree) ≡ page ++ (inner depth tree ++ closing depth)
 behind_opening depth tree old page is =
-    rw (is, flat_map-append line_text (opening_lines depth tree.head) (modules_lines (depth + 1) tree.inside ++ fixed depth (codes "}") ∷ []), flat_map-append line_text (modules_lines (depth + 1) tree.inside) (fixed depth (codes "}") ∷ []), append-nil (closing depth), append_assoc old (lines_text (opening_lines depth tree.head)) (inner depth tree ++ closing depth)) refl
+    rw (is, flat_map-append line_text (opening_lines depth tree.head) (modules_lines (depth + 1) tree.inside ++ fixed depth (text_of phrase.Closer) ∷ []), flat_map-append line_text (modules_lines (depth + 1) tree.inside) (fixed depth (text_of phrase.Closer) ∷ []), append-nil (closing depth), append_assoc old (lines_text (opening_lines depth tree.head)) (inner depth tree ++ closing depth)) refl
 
 -- handing on broke off in the modules of a block
 pub block_broke_off : (told now : Option (List ℕ)) (depth : ℕ) (tree : BlockTree) (old page : List ℕ) → page ≡ old ++ lines_text (opening_lines depth tree.head) → AppendsPrefix told now (page ++ inner depth tree) → AppendsPrefix told now (old ++ lines_text (block_tree_lines depth tree))

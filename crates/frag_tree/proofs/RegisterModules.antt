@@ -13,6 +13,8 @@ use Rattle.frag_words.specs.Words.{Word, words_in, words_behind}
 use Rattle.frag_words.proofs.Readings.{Tells, behind_exact, pair_exact, mapped_exact}
 use Rattle.frag_words.proofs.Lists.{Ends, list_exact}
 use Rattle.frag_words.proofs.Further.{restated_exact, list_until_exact, option_exact, flag_exact}
+use Rattle.frag_tree.specs.Phrases.{text_of, words_of, says}
+use Rattle.frag_tree.specs.declared.phrase.Phrase.TheVariants as phrase
 use Rattle.frag_tree.specs.declared.register.Constant.{Constant}
 use Rattle.frag_tree.specs.declared.register.Reader.{Reader}
 use Rattle.frag_tree.specs.declared.register.RegisterModule.{RegisterModule}
@@ -33,11 +35,11 @@ use Rattle.frag_tree.proofs.ValuesProductions.{values_exact}
 
 readers_exact : IsExact (List Reader) readers_reading
 unfolding readers_reading reader_reading words_behind
-readers_exact = behind_exact (words_in (codes "impl R<Spec> {")) (calls_until reader_reading) (until_brace reader_reading (λ tree rest. refl) reader_exact)
+readers_exact = behind_exact (words_of phrase.ReadersImpl) (calls_until reader_reading) (until_brace reader_reading (λ tree rest. refl) reader_exact)
 
 writers_exact : IsExact (List Writer) writers_reading
 unfolding writers_reading writer_reading words_behind
-writers_exact = behind_exact (words_in (codes "impl W<Spec> {")) (calls_until writer_reading) (until_brace writer_reading (λ tree rest. refl) writer_exact)
+writers_exact = behind_exact (words_of phrase.WritersImpl) (calls_until writer_reading) (until_brace writer_reading (λ tree rest. refl) writer_exact)
 
 -- ---- what parts begin with
 
@@ -54,7 +56,7 @@ some_impl (first ∷ others) begins = one_word first others
 
 values_part_exact : IsExact (List Values) values_part
 unfolding values_part words_behind
-values_part_exact = list_until_exact (word_is 0 (codes "impl")) values_reading (words_in (codes "}"))
+values_part_exact = list_until_exact (word_is 0 (codes "impl")) values_reading (words_of phrase.Closer)
     (record { tells = record { yes = λ tree rest valid. values_impl tree rest; no_other = λ tree rest valid. refl }; some = λ tree valid. some_impl (values_reading.words tree) (values_impl tree []) })
     values_exact
 
@@ -131,22 +133,22 @@ unfolding writable_part writable_reading reset_part reset_reading words_behind
 no_readable None parts rest = refl
 no_readable (Some masks) parts rest = refl
 
-readable_tells : Tells (Option Writable × (Constant × (List Word × (Option (List Reader) × (Option (List Writer) × List Values))))) (Option Writable × (Constant × (List Word × (Option (List Reader) × (Option (List Writer) × List Values))))) (begins_impl (codes "Readable")) (behind (words_in (codes "impl Readable for Spec {}")) writable_part) writable_part
+readable_tells : Tells (Option Writable × (Constant × (List Word × (Option (List Reader) × (Option (List Writer) × List Values))))) (Option Writable × (Constant × (List Word × (Option (List Reader) × (Option (List Writer) × List Values))))) (begins_impl (codes "Readable")) (behind (words_of phrase.ReadableImpl) writable_part) writable_part
 unfolding words_behind
 readable_tells = record { yes = λ tree rest valid. refl; no_other = λ tree rest valid. no_readable tree.0 tree.1 rest }
 
 readable_part_exact : IsExact (Bool × (Option Writable × (Constant × (List Word × (Option (List Reader) × (Option (List Writer) × List Values)))))) readable_part
 unfolding readable_part
-readable_part_exact = flag_exact (begins_impl (codes "Readable")) (words_in (codes "impl Readable for Spec {}")) writable_part readable_tells writable_part_exact
+readable_part_exact = flag_exact (begins_impl (codes "Readable")) (words_of phrase.ReadableImpl) writable_part readable_tells writable_part_exact
 
 register_raw_exact : IsExact RegisterParts register_raw
 unfolding register_raw
-register_raw_exact = behind_exact (words_in (codes "pub mod ")) _ (pair_exact identifier _ identifier_exact (behind_exact register_head _ (pair_exact width_reading _ width_exact (behind_exact (words_in (codes "; }")) readable_part readable_part_exact))))
+register_raw_exact = behind_exact (words_of phrase.PubMod) _ (pair_exact identifier _ identifier_exact (behind_exact register_head _ (pair_exact width_reading _ width_exact (behind_exact (words_of phrase.ClosesSpec) readable_part readable_part_exact))))
 
 -- ---- the words of the parts
 
 abbrev closer : List Word
-closer = words_in (codes "}")
+closer = words_of phrase.Closer
 
 split : (lines more : List Line) (end : List Word) → lines_words (lines ++ more) ++ end ≡ lines_words lines ++ (lines_words more ++ end)
 split lines more end = ap (λ xs. xs ++ end) (flat_map-append line_words lines more) ∙ append_assoc (lines_words lines) (lines_words more) end
@@ -169,12 +171,12 @@ values_end depth blocks = ap₂ (λ xs ys. xs ++ ys) (blocks_words depth blocks)
 writers_front : (depth : ℕ) (writers : Option (List Writer)) (blocks : List Values) → lines_words (writers_lines depth writers) ++ values_part.words blocks ≡ writers_part.words (writers, blocks)
 unfolding writers_part writers_reading writer_reading words_behind
 writers_front depth None blocks = refl
-writers_front depth (Some calls) blocks = ap (λ xs. xs ++ values_part.words blocks) (braced_words depth (text (codes "impl W<Spec> {") ∷ []) (writer_line (depth + 1)) calls)
+writers_front depth (Some calls) blocks = ap (λ xs. xs ++ values_part.words blocks) (braced_words depth (says phrase.WritersImpl ∷ []) (writer_line (depth + 1)) calls)
 
 readers_front : (depth : ℕ) (readers : Option (List Reader)) (writers : Option (List Writer)) (blocks : List Values) → lines_words (readers_lines depth readers) ++ writers_part.words (writers, blocks) ≡ readers_part.words (readers, (writers, blocks))
 unfolding readers_part readers_reading reader_reading words_behind
 readers_front depth None writers blocks = refl
-readers_front depth (Some calls) writers blocks = ap (λ xs. xs ++ writers_part.words (writers, blocks)) (braced_words depth (text (codes "impl R<Spec> {") ∷ []) (reader_line (depth + 1)) calls)
+readers_front depth (Some calls) writers blocks = ap (λ xs. xs ++ writers_part.words (writers, blocks)) (braced_words depth (says phrase.ReadersImpl ∷ []) (reader_line (depth + 1)) calls)
 
 markers_front : (depth : ℕ) (markers : List Word) (parts : Option (List Reader) × (Option (List Writer) × List Values)) → lines_words (map (marker_line depth) markers) ++ readers_part.words parts ≡ markers_part.words (markers, parts)
 unfolding markers_part marker_reading words_behind
@@ -209,8 +211,8 @@ parts_words depth unit =
 pub register_lines-words : (depth : ℕ) (unit : RegisterModule) → lines_words (register_lines depth unit) ≡ register_raw.words (register_parts unit)
 unfolding register_lines register_raw width_reading words_behind
 register_lines-words depth unit =
-    ap (λ xs. line_words (line depth (text (codes "pub mod ") ∷ word unit.name ∷ text (codes " {") ∷ [])) ++ xs) (flat_map-append line_words (part_lines (depth + 1) unit) (fixed depth (codes "}") ∷ []))
-    ∙ ap (λ xs. words_in (codes "pub mod ") ++ ((unit.name ∷ []) ++ (register_head ++ ((width_word unit.word ∷ []) ++ (words_in (codes "; }") ++ xs))))) (parts_words (depth + 1) unit)
+    ap (λ xs. line_words (line depth (says phrase.PubMod ∷ word unit.name ∷ says phrase.OpensModule ∷ [])) ++ xs) (flat_map-append line_words (part_lines (depth + 1) unit) (fixed depth (text_of phrase.Closer) ∷ []))
+    ∙ ap (λ xs. words_of phrase.PubMod ++ ((unit.name ∷ []) ++ (register_head ++ ((width_word unit.word ∷ []) ++ (words_of phrase.ClosesSpec ++ xs))))) (parts_words (depth + 1) unit)
 
 -- ---- validity
 

@@ -8,6 +8,8 @@ use Rattle.frag_words.specs.Words.{Word, words_in, words_behind}
 use Rattle.frag_words.proofs.Readings.{Tells, behind_exact, followed_exact, pair_exact, mapped_exact, either_exact}
 use Rattle.frag_words.proofs.Further.{restated_exact}
 use Rattle.pac_base.specs.declared.width.Width.{Width}
+use Rattle.frag_tree.specs.Phrases.{words_of}
+use Rattle.frag_tree.specs.declared.phrase.Phrase.TheVariants as phrase
 use Rattle.frag_tree.specs.declared.register.BitKind.{BitKind}
 use Rattle.frag_tree.specs.declared.register.BitKind.TheVariants as kind
 use Rattle.frag_tree.specs.declared.register.Constant.{Constant}
@@ -31,12 +33,12 @@ use Rattle.frag_tree.proofs.Productions.{identifier_exact, hexadecimal_exact, de
 
 pub constant_exact : (name : List ℕ) → IsExact Constant (constant_reading name)
 constant_exact name = mapped_exact constant_of constant_parts _ (λ tree. refl) (λ tree. refl)
-    (behind_exact (words_in name) _ (pair_exact width_reading _ width_exact (behind_exact (words_in (codes " = ")) _ (followed_exact hexadecimal_reading (λ _. words_in (codes "; ")) hexadecimal_exact))))
+    (behind_exact (words_in name) _ (pair_exact width_reading _ width_exact (behind_exact (words_of phrase.Equals) _ (followed_exact hexadecimal_reading (λ _. words_of phrase.Semicolon) hexadecimal_exact))))
 
 writable_raw_exact : IsExact (Constant × Constant) writable_raw
 unfolding writable_raw
 writable_raw_exact =
-    behind_exact (words_in (codes "impl Writable for Spec { ")) _ (pair_exact (constant_reading (codes "const ZERO_TO_MODIFY: ")) _ (constant_exact (codes "const ZERO_TO_MODIFY: ")) (followed_exact (constant_reading (codes "const ONE_TO_MODIFY: ")) (λ _. words_in (codes "}")) (constant_exact (codes "const ONE_TO_MODIFY: "))))
+    behind_exact (words_of phrase.WritableImpl) _ (pair_exact (constant_reading phrase.ZeroToModify) _ (constant_exact phrase.ZeroToModify) (followed_exact (constant_reading phrase.OneToModify) (λ _. words_of phrase.Closer) (constant_exact phrase.OneToModify)))
 
 pub writable_exact : IsExact Writable writable_reading
 unfolding writable_reading writable_raw width_reading hexadecimal_reading words_behind
@@ -44,7 +46,7 @@ writable_exact = restated_exact writable_words valid_writable (mapped writable_o
 
 reset_raw_exact : IsExact Constant reset_raw
 unfolding reset_raw
-reset_raw_exact = behind_exact (words_in (codes "impl Resettable for Spec { ")) _ (followed_exact (constant_reading (codes "const RESET_VALUE: ")) (λ _. words_in (codes "}")) (constant_exact (codes "const RESET_VALUE: ")))
+reset_raw_exact = behind_exact (words_of phrase.ResettableImpl) _ (followed_exact (constant_reading phrase.ResetValue) (λ _. words_of phrase.Closer) (constant_exact phrase.ResetValue))
 
 pub reset_exact : IsExact Constant reset_reading
 unfolding reset_reading reset_raw width_reading hexadecimal_reading words_behind
@@ -52,7 +54,7 @@ reset_exact = restated_exact reset_words valid_constant reset_raw (λ tree. refl
 
 pub marker_exact : IsExact Word marker_reading
 unfolding marker_reading
-marker_exact = behind_exact (words_in (codes "pub struct ")) _ (followed_exact identifier (λ _. words_in (codes ";")) identifier_exact)
+marker_exact = behind_exact (words_of phrase.PubStruct) _ (followed_exact identifier (λ _. words_of phrase.ClosesMarker) identifier_exact)
 
 -- ---- readers
 
@@ -63,8 +65,8 @@ reader_tells = record { yes = λ tree rest valid. refl; no_other = λ tree rest 
 reader_raw_exact : IsExact ((Word × (Word × (ℕ × ℕ))) ⊎ (Word × (Word × (Width × (ℕ × ℕ))))) reader_raw
 unfolding reader_raw
 reader_raw_exact = either_exact (word_is 8 (codes "BitReader")) bit_reader_raw field_reader_raw reader_tells
-    (behind_exact (words_in (codes "pub fn ")) _ (pair_exact identifier _ identifier_exact (behind_exact (words_in (codes "(&self) -> BitReader<")) _ (pair_exact identifier _ identifier_exact (behind_exact (words_in (codes "> { BitReader::new(((self.bits >> ")) _ (pair_exact decimal_reading _ decimal_exact (behind_exact (words_in (codes ") & ")) _ (followed_exact hexadecimal_reading (λ _. words_in (codes ") != 0x0) }")) hexadecimal_exact))))))))
-    (followed_exact _ cast_words (behind_exact (words_in (codes "pub fn ")) _ (pair_exact identifier _ identifier_exact (behind_exact (words_in (codes "(&self) -> FieldReader<")) _ (pair_exact identifier _ identifier_exact (behind_exact (words_in (codes ", ")) _ (pair_exact width_reading _ width_exact (behind_exact (words_in (codes "> { FieldReader::new(((self.bits >> ")) _ (pair_exact decimal_reading _ decimal_exact (behind_exact (words_in (codes ") & ")) hexadecimal_reading hexadecimal_exact))))))))))
+    (behind_exact (words_of phrase.PubFn) _ (pair_exact identifier _ identifier_exact (behind_exact (words_in (codes "(&self) -> BitReader<")) _ (pair_exact identifier _ identifier_exact (behind_exact (words_of phrase.NewBitReader) _ (pair_exact decimal_reading _ decimal_exact (behind_exact (words_of phrase.ThenMask) _ (followed_exact hexadecimal_reading (λ _. words_of phrase.ClosesBitReader) hexadecimal_exact))))))))
+    (followed_exact _ cast_words (behind_exact (words_of phrase.PubFn) _ (pair_exact identifier _ identifier_exact (behind_exact (words_in (codes "(&self) -> FieldReader<")) _ (pair_exact identifier _ identifier_exact (behind_exact (words_of phrase.ThenNext) _ (pair_exact width_reading _ width_exact (behind_exact (words_of phrase.NewFieldReader) _ (pair_exact decimal_reading _ decimal_exact (behind_exact (words_of phrase.ThenMask) hexadecimal_reading hexadecimal_exact))))))))))
 
 pub reader_exact : IsExact Reader reader_reading
 unfolding reader_reading reader_raw width_reading hexadecimal_reading decimal_reading words_behind
@@ -115,8 +117,8 @@ writer_tells = record { yes = λ tree rest valid. refl; no_other = λ tree rest 
 writer_raw_exact : IsExact ((Word × (Word × (Width × (ℕ × ℕ)))) ⊎ ((Word × (BitKind × Word)) × ℕ)) writer_raw
 unfolding writer_raw
 writer_raw_exact = either_exact (word_is 9 (codes "FieldWriter")) field_writer_raw bit_writer_raw writer_tells
-    (behind_exact (words_in (codes "pub fn ")) _ (pair_exact identifier _ identifier_exact (behind_exact (words_in (codes "(&mut self) -> FieldWriter<'_, Spec, ")) _ (pair_exact identifier _ identifier_exact (behind_exact (words_in (codes ", ")) _ (pair_exact width_reading _ width_exact (behind_exact (words_in (codes ", ")) _ (pair_exact decimal_reading _ decimal_exact (behind_exact (words_in (codes "> { FieldWriter::new(self, ")) _ (followed_exact decimal_reading (λ _. words_in (codes ") }")) decimal_exact))))))))))
-    (pair_exact _ _ (followed_exact _ again_words (behind_exact (words_in (codes "pub fn ")) _ (pair_exact identifier _ identifier_exact (behind_exact (words_in (codes "(&mut self) -> ")) _ (pair_exact kind_reading _ kind_exact (behind_exact (words_in (codes "<'_, Spec, ")) identifier identifier_exact)))))) (followed_exact decimal_reading (λ _. words_in (codes ") }")) decimal_exact))
+    (behind_exact (words_of phrase.PubFn) _ (pair_exact identifier _ identifier_exact (behind_exact (words_in (codes "(&mut self) -> FieldWriter<'_, Spec, ")) _ (pair_exact identifier _ identifier_exact (behind_exact (words_of phrase.ThenNext) _ (pair_exact width_reading _ width_exact (behind_exact (words_of phrase.ThenNext) _ (pair_exact decimal_reading _ decimal_exact (behind_exact (words_of phrase.NewFieldWriter) _ (followed_exact decimal_reading (λ _. words_of phrase.ClosesCall) decimal_exact))))))))))
+    (pair_exact _ _ (followed_exact _ again_words (behind_exact (words_of phrase.PubFn) _ (pair_exact identifier _ identifier_exact (behind_exact (words_of phrase.PlainMut) _ (pair_exact kind_reading _ kind_exact (behind_exact (words_of phrase.OfSpec) identifier identifier_exact)))))) (followed_exact decimal_reading (λ _. words_of phrase.ClosesCall) decimal_exact))
 
 both_assoc : (x y z : Bool) → (x && (y && z)) ≡ ((x && y) && z)
 both_assoc true y z = refl
@@ -154,10 +156,10 @@ writer_exact = restated_exact writer_words valid_writer (mapped writer_of writer
 -- ---- calls
 
 truth_raw_exact : (middle end : List ℕ) → IsExact (Word × Bool) (truth_raw middle end)
-truth_raw_exact middle end = behind_exact (words_in (codes "pub fn ")) _ (pair_exact identifier _ identifier_exact (behind_exact (words_in middle) _ (followed_exact truth_reading (λ _. words_in end) truth_exact)))
+truth_raw_exact middle end = behind_exact (words_of phrase.PubFn) _ (pair_exact identifier _ identifier_exact (behind_exact (words_in middle) _ (followed_exact truth_reading (λ _. words_in end) truth_exact)))
 
 number_raw_exact : (middle end : List ℕ) → IsExact (Word × ℕ) (number_raw middle end)
-number_raw_exact middle end = behind_exact (words_in (codes "pub fn ")) _ (pair_exact identifier _ identifier_exact (behind_exact (words_in middle) _ (followed_exact hexadecimal_reading (λ _. words_in end) hexadecimal_exact)))
+number_raw_exact middle end = behind_exact (words_of phrase.PubFn) _ (pair_exact identifier _ identifier_exact (behind_exact (words_in middle) _ (followed_exact hexadecimal_reading (λ _. words_in end) hexadecimal_exact)))
 
 truth_call_exact : (words : TruthCall → List Word) (middle end : List ℕ) → ((call : TruthCall) → words call ≡ (truth_raw middle end).words (truth_parts call)) → IsExact TruthCall (restated words valid_truth (mapped truth_of truth_parts (truth_raw middle end)))
 unfolding truth_reading
@@ -171,16 +173,16 @@ number_call_exact words middle end same =
 
 pub truth_test_exact : IsExact TruthCall truth_test
 unfolding truth_test truth_reading words_behind
-truth_test_exact = truth_call_exact (λ call. line_words (truth_test_line 0 call)) (codes "(&self) -> bool { self.bit() == ") (codes " }") (λ call. refl)
+truth_test_exact = truth_call_exact (λ call. line_words (truth_test_line 0 call)) phrase.TestsBit phrase.ClosesBody (λ call. refl)
 
 pub truth_write_exact : IsExact TruthCall truth_write
 unfolding truth_write truth_reading words_behind
-truth_write_exact = truth_call_exact (λ call. line_words (truth_write_line 0 call)) (codes "(self) -> &'a mut W<Spec> { self.bit(") (codes ") }") (λ call. refl)
+truth_write_exact = truth_call_exact (λ call. line_words (truth_write_line 0 call)) phrase.WritesBit phrase.ClosesCall (λ call. refl)
 
 pub number_test_exact : IsExact NumberCall number_test
 unfolding number_test hexadecimal_reading words_behind
-number_test_exact = number_call_exact (λ call. line_words (number_test_line 0 call)) (codes "(&self) -> bool { self.bits() == ") (codes " }") (λ call. refl)
+number_test_exact = number_call_exact (λ call. line_words (number_test_line 0 call)) phrase.TestsNumber phrase.ClosesBody (λ call. refl)
 
 pub number_write_exact : IsExact NumberCall number_write
 unfolding number_write hexadecimal_reading words_behind
-number_write_exact = number_call_exact (λ call. line_words (number_write_line 0 call)) (codes "(self) -> &'a mut W<Spec> { self.bits(") (codes ") }") (λ call. refl)
+number_write_exact = number_call_exact (λ call. line_words (number_write_line 0 call)) phrase.WritesNumber phrase.ClosesCall (λ call. refl)

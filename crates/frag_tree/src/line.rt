@@ -5,6 +5,7 @@ ghost use Rattle.frag_tree.specs.Parts.{piece_of, spaces};
 ghost use Rattle.frag_tree.specs.Numerals.{hexadecimal_word};
 
 use crate::identifier::Identifier;
+use crate::phrase::Phrase;
 use crate::register::BitKind;
 use crate::word::{kind_word, truth_word, width_word};
 use pac_base::{NoMemory, Width};
@@ -14,7 +15,7 @@ use pac_io::Page;
 #[derive(Clone, Copy)]
 pub(crate) enum Part<'a> {
     /// A fixed text.
-    Text(&'a str),
+    Text(Phrase),
     /// A name.
     Name(&'a Identifier),
     /// A number, `0x` and lower-case digits.
@@ -94,7 +95,7 @@ fn push_part(page: &mut Page, part: Part) -> Result<(), NoMemory>
     ensures { OnOk result (page.new ≡ page.old ++ piece_text (piece_of part.entry)) }
 {
     match part {
-        Part::Text(text) => page.push(text.as_bytes()),
+        Part::Text(phrase) => page.push(phrase.text()),
         Part::Name(name) => page.push(name.bytes()),
         Part::Hexadecimal(number) => push_hexadecimal(page, number),
         Part::Decimal(number) => page.decimal(number),

@@ -1,7 +1,7 @@
 use crate::{
     Access, BitKind, Block, Body, Constant, Crate, Element, Event, Events, FieldType, Identifier,
-    IdentifierFault, Module, ReadForm, Reader, RegisterModule, Said, Slot, StructField, Writable,
-    WriteForm, Writer, print_crate,
+    IdentifierFault, Module, ReadForm, Reader, RegisterModule, Said, Slot, Spot, StructField, Version,
+    Writable, WriteForm, Writer, print_crate,
 };
 use pac_base::{Seq, Width};
 use pac_io::{MemSink, SinkFault};
@@ -59,7 +59,10 @@ fn reader(alloc: Global, call: &str, marker: &str, shift: u64) -> Result<Reader,
     Ok(Reader {
         name: name(alloc, call)?,
         marker: name(alloc, marker)?,
-        form: ReadForm::Bit { shift, mask: 1 },
+        form: ReadForm::Bit {
+            spot: Spot::Fixed(shift),
+            mask: 1,
+        },
     })
 }
 
@@ -73,7 +76,10 @@ fn writer(
     Ok(Writer {
         name: name(alloc, call)?,
         marker: name(alloc, marker)?,
-        form: WriteForm::Bit { kind, offset },
+        form: WriteForm::Bit {
+            kind,
+            spot: Spot::Fixed(offset),
+        },
     })
 }
 
@@ -154,6 +160,7 @@ fn example(alloc: Global) -> Result<Crate, Fail> {
     let mut blocks = Vec::new(alloc);
     blocks.push(block(alloc)?)?;
     Ok(Crate {
+        version: Version::One,
         slots,
         blocks,
         places: Seq::new(alloc),
