@@ -18,7 +18,7 @@ use Rattle.frag_tree.specs.declared.block.Module.{Module}
 use Rattle.frag_tree.specs.Blocks.{opening_lines, modules_lines, module_lines, block_tree_lines}
 use Rattle.frag_tree.specs.declared.krate.Crate.{Crate}
 use Rattle.frag_tree.specs.declared.krate.Slot.{Slot}
-use Rattle.frag_tree.specs.Crates.{top_lines, slots_lines, crate_lines, printed}
+use Rattle.frag_tree.specs.Crates.{top_lines, slots_lines, version_lines, crate_lines, printed}
 use Rattle.frag_tree.specs.Trees.{BlockTree, ModuleTree, Modules, one_block, one_register, before, in_line, block_tree, module_tree, crate_tree}
 
 -- how far a list of things has come on the page: `left` is still to come
@@ -135,8 +135,11 @@ pub modules_done : {old now : Option (List ℕ)} {all : List ℕ} (depth : ℕ) 
 modules_done {old} {now} {all} depth parts i page past so_far =
     subst (λ (xs : List ℕ). WrittenUpTo old now all xs) (ap (λ (left : List Module). page ++ modules_from depth left) (drop_all i parts past) ∙ (ap (λ xs. page ++ xs) (modules_from-none depth) ∙ append-nil page)) so_far
 
--- the slots and then the blocks are the whole crate
-pub whole_crate : (krate : Crate) (slots : List Slot) (blocks : List Block) (start page : List ℕ) → start ≡ [] → slots ≡ krate.slots → blocks ≡ krate.blocks.items → page ≡ start ++ lines_text (slots_lines slots) → page ++ tops_from blocks ≡ printed (crate_tree krate)
+-- the line of the version, the slots and then the blocks are the whole crate
+pub whole_crate : (krate : Crate) (slots : List Slot) (blocks : List Block) (start behind page : List ℕ) → start ≡ [] → slots ≡ krate.slots → blocks ≡ krate.blocks.items → behind ≡ start ++ lines_text (version_lines krate.version) → page ≡ behind ++ lines_text (slots_lines slots) → page ++ tops_from blocks ≡ printed (crate_tree krate)
 unfolding crate_lines crate_tree
-whole_crate krate slots blocks start page empty is-slots is-blocks is =
-    rw (is, empty, is-slots, is-blocks) (sym (flat_map-append line_text (slots_lines krate.slots) (flat_map top_lines (map block_tree krate.blocks.items))))
+whole_crate krate slots blocks start behind page empty is-slots is-blocks first is =
+    rw (is, first, empty, is-slots, is-blocks)
+    (append_assoc (lines_text (version_lines krate.version)) (lines_text (slots_lines krate.slots)) (tops_from krate.blocks.items)
+    ∙ (ap (λ xs. lines_text (version_lines krate.version) ++ xs) (sym (flat_map-append line_text (slots_lines krate.slots) (flat_map top_lines (map block_tree krate.blocks.items))))
+    ∙ sym (flat_map-append line_text (version_lines krate.version) (slots_lines krate.slots ++ flat_map top_lines (map block_tree krate.blocks.items)))))

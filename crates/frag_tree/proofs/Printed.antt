@@ -37,6 +37,6 @@ pieces-append pieces more = flat_map-append piece_text pieces more
 pub ruleset joined = (pieces-append, append_assoc)
 
 -- the parts of an accessor's line, put one by one
-pub put_access : (spaces : List ℕ) (head element body : List Piece) (between behind : List ℕ) (old a b c d e new : List ℕ) → a ≡ old ++ spaces → b ≡ a ++ flat_map piece_text head → c ≡ b ++ flat_map piece_text element → d ≡ c ++ between → e ≡ d ++ flat_map piece_text body → new ≡ e ++ (behind ++ codes "\n") → new ≡ old ++ (spaces ++ (flat_map piece_text (head ++ (element ++ text between ∷ (body ++ text behind ∷ []))) ++ codes "\n"))
-put_access spaces head element body between behind old a b c d e new is-a is-b is-c is-d is-e is-new =
+pub put_access : (spaces : List ℕ) (head element body : List Piece) (between : List ℕ) (old a b c d e new : List ℕ) → a ≡ old ++ spaces → b ≡ a ++ flat_map piece_text head → c ≡ b ++ flat_map piece_text element → d ≡ c ++ between → e ≡ d ++ flat_map piece_text body → new ≡ e ++ codes "\n" → new ≡ old ++ (spaces ++ (flat_map piece_text (head ++ (element ++ text between ∷ body)) ++ codes "\n"))
+put_access spaces head element body between old a b c d e new is-a is-b is-c is-d is-e is-new =
     rw (is-new, is-e, is-d, is-c, is-b, is-a) (simp (pieces-append, append_assoc, append-nil))

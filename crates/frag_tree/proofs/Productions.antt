@@ -13,7 +13,7 @@ use Rattle.frag_words.proofs.Readings.{Tells, given, both_left, both_right, some
 use Rattle.frag_words.proofs.Further.{restated_exact, one_of_exact, choice_exact}
 use Rattle.pac_base.specs.declared.width.Width.{Width}
 use Rattle.pac_base.specs.declared.width.Width.TheVariants.{W8, W16, W32, W64}
-use Rattle.frag_tree.specs.Phrases.{words_of, says}
+use Rattle.frag_tree.specs.Phrases.{words_of, says, receiver}
 use Rattle.frag_tree.specs.declared.phrase.Phrase.TheVariants as phrase
 use Rattle.frag_tree.specs.declared.access.Access.{Access}
 use Rattle.frag_tree.specs.declared.access.Body.{Body}
@@ -26,7 +26,7 @@ use Rattle.frag_tree.specs.declared.block.StructField.{StructField}
 use Rattle.frag_tree.specs.declared.krate.Slot.{Slot}
 use Rattle.frag_tree.specs.declared.register.BitKind.{BitKind}
 use Rattle.frag_tree.specs.declared.register.BitKind.TheVariants as kind
-use Rattle.frag_tree.specs.Blocks.{body_pieces, element_pieces, index_text, type_pieces}
+use Rattle.frag_tree.specs.Blocks.{body_pieces, element_pieces, type_pieces}
 use Rattle.frag_tree.specs.Identifiers.{is_identifier}
 use Rattle.frag_tree.specs.Numerals.{hexadecimal_word, decimal_word, width_word, truth_word}
 use Rattle.frag_tree.specs.Productions.{identifier, numeral_at, hexadecimal_reading, decimal_reading, width_reading, truth_reading, kind_reading, slot_words, slot_of, slot_parts, slot_raw, slot_reading, element_words, element_of, element_parts, element_raw, element_reading, type_words, type_of, type_parts, type_raw, type_reading, field_words, field_of, field_parts, field_raw, field_reading, body_words, body_of, body_parts, body_raw, body_reading, index_reading, access_words, access_of, access_parts, access_raw, access_reading}
@@ -302,9 +302,9 @@ body_exact = restated_exact body_words valid_body (mapped body_of body_parts bod
 
 index_exact : IsExact Bool index_reading
 unfolding index_reading words_behind
-index_exact = choice_exact (word_is 3 (codes ",")) (words_in (codes "(&self, n: usize) -> &")) (words_in (codes "(&self) -> &")) (record { holds = λ rest. refl; fails = λ rest. refl })
+index_exact = choice_exact (word_is 3 (codes ",")) (words_of (receiver true)) (words_of (receiver false)) (record { holds = λ rest. refl; fails = λ rest. refl })
 
-index_words : (is_indexed : Bool) → words_in (index_text is_indexed) ≡ index_reading.words is_indexed
+index_words : (is_indexed : Bool) → words_of (receiver is_indexed) ≡ index_reading.words is_indexed
 unfolding index_reading words_behind
 index_words true = refl
 index_words false = refl
@@ -317,15 +317,14 @@ index_valid false = refl
 access_raw_exact : IsExact (Word × (Bool × (Element × Body))) access_raw
 unfolding access_raw
 access_raw_exact =
-    behind_exact (words_of phrase.PubFn) _ (pair_exact identifier _ identifier_exact (pair_exact index_reading _ index_exact (pair_exact element_reading _ element_exact (behind_exact (words_of phrase.OpensBody) body_reading body_exact))))
+    behind_exact (words_of phrase.PubFn) _ (pair_exact identifier _ identifier_exact (pair_exact index_reading _ index_exact (behind_exact (words_of phrase.Reference) _ (pair_exact element_reading _ element_exact (behind_exact (words_of phrase.OpensBody) body_reading body_exact)))))
 
 access_words-are : (name : Word) (is_indexed : Bool) (element : Element) (body : Body) → access_words (record { name = name; is_indexed = is_indexed; element = element; body = body }) ≡ access_raw.words (name, (is_indexed, (element, body)))
 unfolding access_raw element_reading body_reading
 access_words-are name is_indexed element body =
-    ap (λ xs. words_of phrase.PubFn ++ ((name ∷ []) ++ (words_in (index_text is_indexed) ++ xs)))
-    (flat_map-append piece_words (element_pieces element) (says phrase.OpensBody ∷ (body_pieces body ++ says phrase.ClosesBody ∷ []))
-    ∙ ap (λ xs. element_words element ++ (words_of phrase.OpensBody ++ xs)) (flat_map-append piece_words (body_pieces body) (says phrase.ClosesBody ∷ []) ∙ ap (λ xs. flat_map piece_words (body_pieces body) ++ xs) (append-nil (words_of phrase.ClosesBody))))
-    ∙ ap (λ xs. words_of phrase.PubFn ++ ((name ∷ []) ++ (xs ++ (element_words element ++ (words_of phrase.OpensBody ++ body_words body))))) (index_words is_indexed)
+    ap (λ xs. words_of phrase.PubFn ++ ((name ∷ []) ++ (words_of (receiver is_indexed) ++ (words_of phrase.Reference ++ xs))))
+    (flat_map-append piece_words (element_pieces element) (says phrase.OpensBody ∷ body_pieces body))
+    ∙ ap (λ xs. words_of phrase.PubFn ++ ((name ∷ []) ++ (xs ++ (words_of phrase.Reference ++ (element_words element ++ (words_of phrase.OpensBody ++ body_words body)))))) (index_words is_indexed)
 
 pub access_exact : IsExact Access access_reading
 unfolding access_reading access_raw element_reading body_reading

@@ -82,7 +82,11 @@ fn push_type(page: &mut Page, holds: &FieldType) -> Result<(), NoMemory>
         FieldType::Gap { bytes } => {
             push_parts(
                 page,
-                &[Part::Text(Phrase::OpensGap), Part::Decimal(*bytes), Part::Text(Phrase::ClosesArray)],
+                &[
+                    Part::Text(Phrase::OpensGap),
+                    Part::Decimal(*bytes),
+                    Part::Text(Phrase::ClosesArray),
+                ],
             )
         }
     }
@@ -96,7 +100,11 @@ fn push_array(page: &mut Page, element: &Element, count: u64) -> Result<(), NoMe
     push_element(page, element)?;
     push_parts(
         page,
-        &[Part::Text(Phrase::Semicolon), Part::Decimal(count), Part::Text(Phrase::ClosesArray)],
+        &[
+            Part::Text(Phrase::Semicolon),
+            Part::Decimal(count),
+            Part::Text(Phrase::ClosesArray),
+        ],
     )
 }
 
@@ -137,7 +145,11 @@ fn push_body(page: &mut Page, body: &Body) -> Result<(), NoMemory>
         Body::Member { field } => {
             push_parts(
                 page,
-                &[Part::Text(Phrase::FieldOfSelf), Part::Name(field), Part::Text(Phrase::ClosesMember)],
+                &[
+                    Part::Text(Phrase::FieldOfSelf),
+                    Part::Name(field),
+                    Part::Text(Phrase::ClosesMember),
+                ],
             )
         }
         Body::At { offset } => {

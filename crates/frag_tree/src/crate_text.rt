@@ -9,7 +9,7 @@ ghost use Rattle.frag_tree.specs.Trees.{block_tree, crate_tree, in_line, module_
 use crate::block::{Block, Module};
 use crate::block_text::{push_accessors, push_struct};
 use crate::krate::{Crate, Slot, Version};
-use crate::line::{OneLine, Part, deeper, push_each, push_line};
+use crate::line::{OneLine, Part, deeper, push_each, push_fixed, push_line};
 use crate::phrase::Phrase;
 use crate::register_text::push_register;
 use pac_base::NoMemory;
@@ -154,7 +154,7 @@ fn push_opening(block: &Block, depth: usize, page: &mut Page) -> Result<(), NoMe
         ],
     )?;
     let inner = deeper(depth)?;
-    push_line(page, inner, &[Part::Text(Phrase::UsePrelude)])?;
+    push_fixed(page, inner, Phrase::UsePrelude)?;
     push_struct(page, inner, block.fields.as_slice())?;
     push_accessors(page, inner, block.accessors.as_slice())
 }

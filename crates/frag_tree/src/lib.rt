@@ -35,3 +35,4 @@ pub use register::{
 };
 pub use script::{Script, ScriptLine};
 pub use statement::{Atom, Call, Link, Place, Source, Statement, Value};
+pub use word::{kind_word, truth_word, width_word};

@@ -1,7 +1,8 @@
 ghost use Rattle.std.specs.Prelude.{ℕ, ◌≡◌, ◌+◌, ◌++◌, IfOk, OnOk, map};
 ghost use Rattle.std.specs.List.{flat_map};
-ghost use Rattle.frag_words.specs.Lines.{Line, line, line_text, lines_text, piece_text};
+ghost use Rattle.frag_words.specs.Lines.{Line, fixed, line, line_text, lines_text, piece_text};
 ghost use Rattle.frag_tree.specs.Parts.{piece_of, spaces};
+ghost use Rattle.frag_tree.specs.Phrases.{text_of};
 ghost use Rattle.frag_tree.specs.Numerals.{hexadecimal_word};
 
 use crate::identifier::Identifier;
@@ -62,6 +63,13 @@ pub(crate) fn push_line(page: &mut Page, depth: usize, parts: &[Part]) -> Result
     push_indent(page, depth)?;
     push_parts(page, parts)?;
     page.push(b"\n")
+}
+
+/// Appends a line of one fixed text.
+pub(crate) fn push_fixed(page: &mut Page, depth: usize, phrase: Phrase) -> Result<(), NoMemory>
+    ensures { OnOk result (page.new ≡ page.old ++ line_text (fixed depth (text_of phrase))) }
+{
+    push_line(page, depth, &[Part::Text(phrase)])
 }
 
 /// The depth within one more brace. Where there is no such number, memory could not hold the spaces.

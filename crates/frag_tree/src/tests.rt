@@ -1,7 +1,7 @@
 use crate::{
     Access, BitKind, Block, Body, Constant, Crate, Element, Event, Events, FieldType, Identifier,
-    IdentifierFault, Module, ReadForm, Reader, RegisterModule, Said, Slot, Spot, StructField, Version,
-    Writable, WriteForm, Writer, print_crate,
+    IdentifierFault, Module, ReadForm, Reader, RegisterModule, Said, Slot, Spot, StructField,
+    Version, Writable, WriteForm, Writer, print_crate,
 };
 use pac_base::{Seq, Width};
 use pac_io::{MemSink, SinkFault};

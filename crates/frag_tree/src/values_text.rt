@@ -4,8 +4,8 @@ ghost use Rattle.frag_words.specs.Lines.{line, line_text, lines_text};
 ghost use Rattle.frag_tree.specs.Registers.{calls_lines, number_call_line, opening_pieces, truth_call_line, values_lines};
 
 use crate::line::{Part, deeper, push_line};
-use crate::register::{NumberCall, TruthCall, Values};
 use crate::phrase::Phrase;
+use crate::register::{NumberCall, TruthCall, Values};
 use pac_base::NoMemory;
 use pac_io::Page;
 
