@@ -12,8 +12,6 @@ mod part;
 mod place;
 mod script;
 mod statement;
-#[cfg(test)]
-mod tests;
 mod token;
 mod value;
 

@@ -1,0 +1,12 @@
+// The worked rows of the crate text and of scripts: whole calls that read, print and keep them, with
+// what each answers.
+#![tactic(auto)]
+
+#[cfg(test)]
+mod crate_text;
+#[cfg(test)]
+mod events;
+#[cfg(test)]
+mod identifiers;
+#[cfg(test)]
+mod scripts;
