@@ -7,7 +7,7 @@ use Rattle.std.proofs.lemmas.List.{append-nil}
 use Rattle.std.proofs.lemmas.List.Folds.{flat_map-map}
 use Rattle.frag_words.specs.Lines.{Line, Piece, fixed, braced, line_words, lines_words, piece_words}
 use Rattle.frag_words.specs.Readings.{Reading, IsExact, word_is}
-use Rattle.frag_words.specs.Words.{Word, words_in, words_behind}
+use Rattle.frag_words.specs.Words.{Word, words_behind}
 use Rattle.frag_words.proofs.Further.{list_until_exact}
 use Rattle.frag_tree.specs.Phrases.{text_of, words_of}
 use Rattle.frag_tree.specs.declared.phrase.Phrase.TheVariants as phrase

@@ -4,9 +4,9 @@ use Rattle.std.specs.Prelude.{codes, option_map, if◌then◌else◌}
 use Rattle.std.specs.List.{flat_map, list_all}
 use Rattle.std.proofs.Math.Bool.{and-true}
 use Rattle.std.proofs.lemmas.Grind.{flat_map-append}
-use Rattle.frag_words.specs.Lines.{line_words, lines_words, text}
+use Rattle.frag_words.specs.Lines.{line_words, lines_words}
 use Rattle.frag_words.specs.Readings.{IsExact, then_read, expected, word_is}
-use Rattle.frag_words.specs.Words.{Word, words_in, words_behind}
+use Rattle.frag_words.specs.Words.{Word, words_behind}
 use Rattle.frag_words.proofs.Readings.{given, both, both_left, both_right, some_is, then_some, expected-append, expected_some}
 use Rattle.frag_tree.specs.declared.krate.Version.{Version}
 use Rattle.frag_tree.specs.Phrases.{words_of, says}

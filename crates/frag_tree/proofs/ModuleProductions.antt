@@ -5,9 +5,9 @@ use Rattle.std.specs.List.{list_all}
 use Rattle.std.proofs.Math.Bool.{and-true}
 use Rattle.std.proofs.lemmas.Grind.{flat_map-append}
 use Rattle.std.proofs.lemmas.List.{append-nil}
-use Rattle.frag_words.specs.Lines.{Line, fixed, braced, line_words, lines_words, text}
+use Rattle.frag_words.specs.Lines.{Line, fixed, braced, line_words, lines_words}
 use Rattle.frag_words.specs.Readings.{IsExact, then_read, expected, pair, mapped, either, word_is}
-use Rattle.frag_words.specs.Words.{Word, words_in, words_behind}
+use Rattle.frag_words.specs.Words.{Word, words_behind}
 use Rattle.frag_words.proofs.Readings.{Tells, given, both, both_left, both_right, some_is, then_some, expected_some, behind_exact, pair_exact, mapped_exact, either_exact}
 use Rattle.frag_words.proofs.Further.{restated_exact, list_until_exact}
 use Rattle.frag_tree.specs.declared.krate.Version.{Version}

@@ -1,6 +1,6 @@
 -- How far the modules of a crate are printed.
 use Rattle.std.proofs.Common.{◌≡◌, ℕ, ◌+◌, ◌<◌, ◌≤◌, List, [], ◌∷◌, ◌++◌, Option, map, drop, length, refl, sym, ap, ◌∙◌, subst, append_assoc, add-one, slice_index_or}
-use Rattle.std.specs.Prelude.{codes, Result}
+use Rattle.std.specs.Prelude.{Result}
 use Rattle.std.specs.List.{flat_map}
 use Rattle.std.proofs.lemmas.Grind.{flat_map-append}
 use Rattle.std.proofs.lemmas.List.{append-nil, drop_all}

@@ -1,14 +1,12 @@
 -- The productions of the crate text are exact.
 use Rattle.std.proofs.Common.{ℕ, ◌≡◌, List, [], ◌∷◌, ◌++◌, Bool, true, false, ◌⊎◌, inl, inr, refl, sym, ap, ◌∙◌}
 use Rattle.std.specs.Prelude.{◌&&◌, codes}
-use Rattle.std.specs.List.{flat_map}
 use Rattle.std.specs.Str.{bytes_eq}
 use Rattle.std.proofs.lemmas.Slice.Eq.{bytes_eq-Decides}
 use Rattle.std.proofs.lemmas.Grind.{flat_map-append}
-use Rattle.std.proofs.lemmas.List.{append-nil}
-use Rattle.frag_words.specs.Lines.{piece_words, text}
+use Rattle.frag_words.specs.Lines.{piece_words}
 use Rattle.frag_words.specs.Readings.{Reading, IsExact, behind, followed, pair, mapped, words_of_either, either, word_is, among}
-use Rattle.frag_words.specs.Words.{Word, words_in, words_behind}
+use Rattle.frag_words.specs.Words.{Word, words_behind}
 use Rattle.frag_words.proofs.Readings.{Tells, given, both_left, both_right, some_is, if_some, word_exact, spelled_exact, behind_exact, followed_exact, pair_exact, mapped_exact, either_exact}
 use Rattle.frag_words.proofs.Further.{restated_exact, one_of_exact, choice_exact}
 use Rattle.pac_base.specs.declared.width.Width.{Width}

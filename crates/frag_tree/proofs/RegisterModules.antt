@@ -7,9 +7,9 @@ use Rattle.std.proofs.Math.Bool.{and-true}
 use Rattle.std.proofs.lemmas.Grind.{flat_map-append}
 use Rattle.std.proofs.lemmas.List.{append-nil}
 use Rattle.std.proofs.lemmas.List.Folds.{flat_map-map}
-use Rattle.frag_words.specs.Lines.{Line, line, fixed, line_words, lines_words, text, word}
+use Rattle.frag_words.specs.Lines.{Line, line, fixed, line_words, lines_words, word}
 use Rattle.frag_words.specs.Readings.{IsExact, behind, pair, mapped, word_is}
-use Rattle.frag_words.specs.Words.{Word, words_in, words_behind}
+use Rattle.frag_words.specs.Words.{Word, words_behind}
 use Rattle.frag_words.proofs.Readings.{Tells, behind_exact, pair_exact, mapped_exact}
 use Rattle.frag_words.proofs.Lists.{Ends, list_exact}
 use Rattle.frag_words.proofs.Further.{restated_exact, list_until_exact, option_exact, flag_exact}

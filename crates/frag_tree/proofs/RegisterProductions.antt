@@ -1,10 +1,10 @@
 -- The productions of register modules are exact.
-use Rattle.std.proofs.Common.{ℕ, ◌≡◌, List, ◌++◌, Bool, true, false, ◌⊎◌, inl, inr, refl, sym, ap, ◌∙◌}
+use Rattle.std.proofs.Common.{ℕ, ◌≡◌, List, ◌++◌, Bool, true, false, inl, inr, refl, sym, ap, ◌∙◌}
 use Rattle.std.specs.Prelude.{◌&&◌, codes}
 use Rattle.std.proofs.Math.Bool.{and-true}
 use Rattle.frag_words.specs.Lines.{line_words}
 use Rattle.frag_words.specs.Readings.{IsExact, mapped, only_if, restated, word_is}
-use Rattle.frag_words.specs.Words.{Word, words_in, words_behind}
+use Rattle.frag_words.specs.Words.{Word, words_behind}
 use Rattle.frag_words.proofs.Readings.{Tells, behind_exact, both, both_left, both_right, followed_exact, given, pair_exact, mapped_exact, either_exact, some_is}
 use Rattle.frag_words.proofs.Further.{Sides, only_if_exact, restated_exact, told_apart_exact, within_exact}
 use Rattle.pac_base.specs.declared.width.Width.{Width}

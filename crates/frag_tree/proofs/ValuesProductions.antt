@@ -5,7 +5,7 @@ use Rattle.std.specs.List.{flat_map, list_all}
 use Rattle.std.proofs.Math.Bool.{and-true}
 use Rattle.std.proofs.lemmas.List.{append-nil}
 use Rattle.frag_words.specs.Readings.{IsExact, mapped, words_of_either, either, word_is}
-use Rattle.frag_words.specs.Words.{Word, words_in, words_behind}
+use Rattle.frag_words.specs.Words.{Word, words_behind}
 use Rattle.frag_words.proofs.Readings.{Tells, behind_exact, pair_exact, mapped_exact, either_exact}
 use Rattle.frag_words.proofs.Further.{restated_exact}
 use Rattle.pac_base.specs.declared.width.Width.{Width}

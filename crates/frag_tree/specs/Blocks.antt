@@ -1,6 +1,6 @@
 -- The printed form of block modules (this project's own templates, after what svd2rust prints).
-use Rattle.std.specs.Prelude.{ℕ, ◌+◌, Bool, true, false, List, [], ◌∷◌, ◌++◌, codes, map}
-use Rattle.frag_words.specs.Lines.{Piece, Line, text, word, line, fixed, braced}
+use Rattle.std.specs.Prelude.{ℕ, ◌+◌, List, [], ◌∷◌, ◌++◌, map}
+use Rattle.frag_words.specs.Lines.{Piece, Line, word, line, fixed, braced}
 use Rattle.frag_tree.specs.Phrases.{text_of, says, receiver}
 use Rattle.frag_tree.specs.declared.phrase.Phrase.TheVariants as phrase
 use Rattle.frag_tree.specs.declared.access.Access.{Access}

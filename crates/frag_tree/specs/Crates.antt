@@ -1,8 +1,8 @@
 -- The printed form of a crate (this project's own templates, after what svd2rust prints), and which
 -- crate a text parses as.
-use Rattle.std.specs.Prelude.{ℕ, ◌≡◌, List, [], ◌∷◌, ◌++◌, codes, map}
+use Rattle.std.specs.Prelude.{ℕ, ◌≡◌, List, [], ◌∷◌, ◌++◌, map}
 use Rattle.std.specs.List.{flat_map}
-use Rattle.frag_words.specs.Lines.{Line, text, word, line, fixed, braced, empty_line, lines_text, lines_words}
+use Rattle.frag_words.specs.Lines.{Line, word, line, fixed, braced, empty_line, lines_text, lines_words}
 use Rattle.frag_words.specs.Words.{Word, words_in}
 use Rattle.frag_tree.specs.Phrases.{says, text_of}
 use Rattle.frag_tree.specs.declared.phrase.Phrase.TheVariants as phrase

@@ -3,7 +3,7 @@ use Rattle.std.specs.Prelude.{ℕ, List, [], ◌∷◌, ◌++◌, length, Bool, 
 use Rattle.std.proofs.Common.{inl, inr}
 use Rattle.frag_words.specs.Lines.{lines_words}
 use Rattle.frag_words.specs.Readings.{Reading, then_read, expected, behind, pair, mapped, either, restated, word_is, list_until}
-use Rattle.frag_words.specs.Words.{Word, words_in}
+use Rattle.frag_words.specs.Words.{Word}
 use Rattle.frag_tree.specs.Phrases.{words_of}
 use Rattle.frag_tree.specs.declared.phrase.Phrase.TheVariants as phrase
 use Rattle.frag_tree.specs.declared.access.Access.{Access}

@@ -1,11 +1,11 @@
 -- The productions of the crate text as readings of words: the words are those of the printed form, and the readers are put together in the order of the grammar.
-use Rattle.std.specs.Prelude.{ℕ, List, [], ◌∷◌, ◌++◌, Bool, true, false, ◌&&◌, Option, Some, None, codes, drop, if◌then◌else◌, ◌⊎◌}
+use Rattle.std.specs.Prelude.{ℕ, List, [], ◌∷◌, Bool, true, false, ◌&&◌, Option, Some, None, codes, drop, if◌then◌else◌, ◌⊎◌}
 use Rattle.std.proofs.Common.{inl, inr}
 use Rattle.std.specs.List.{flat_map}
 use Rattle.std.specs.Str.{bytes_eq}
 use Rattle.frag_words.specs.Lines.{line_words, piece_words}
 use Rattle.frag_words.specs.Readings.{Reading, word_where, spelled, behind, followed, pair, mapped, either, restated, word_is, one_of, choice}
-use Rattle.frag_words.specs.Words.{Word, words_in}
+use Rattle.frag_words.specs.Words.{Word}
 use Rattle.pac_base.specs.declared.width.Width.{Width}
 use Rattle.pac_base.specs.declared.width.Width.TheVariants.{W8, W16, W32, W64}
 use Rattle.text_scan.specs.Numbers.{value_of}

@@ -3,7 +3,7 @@ use Rattle.std.specs.Prelude.{ℕ, List, ◌∷◌, ◌++◌, Bool, true, false,
 use Rattle.std.proofs.Common.{inl, inr}
 use Rattle.frag_words.specs.Lines.{line_words, lines_words}
 use Rattle.frag_words.specs.Readings.{Reading, behind, followed, pair, mapped, either, list_then, restated, word_is, list_until, option_then, flag_then, only_if, told_apart, within}
-use Rattle.frag_words.specs.Words.{Word, words_in}
+use Rattle.frag_words.specs.Words.{Word}
 use Rattle.pac_base.specs.declared.width.Width.{Width}
 use Rattle.frag_tree.specs.Phrases.{words_of, receiver, receiver_mut}
 use Rattle.frag_tree.specs.declared.phrase.Phrase.{Phrase}

@@ -1,7 +1,7 @@
 -- The printed form of register modules (this project's own templates, after what svd2rust prints).
 use Rattle.std.specs.Prelude.{ℕ, ◌+◌, Bool, true, false, Option, Some, None, List, [], ◌∷◌, ◌++◌, codes, map}
 use Rattle.std.specs.List.{flat_map}
-use Rattle.frag_words.specs.Lines.{Piece, Line, text, word, line, fixed, braced}
+use Rattle.frag_words.specs.Lines.{Piece, Line, word, line, fixed, braced}
 use Rattle.frag_words.specs.Words.{Word}
 use Rattle.frag_tree.specs.declared.phrase.Phrase.{Phrase}
 use Rattle.frag_tree.specs.Phrases.{text_of, says, receiver, receiver_mut}

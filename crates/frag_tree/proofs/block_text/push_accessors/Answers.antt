@@ -1,7 +1,5 @@
 use Rattle.std.proofs.Common.{◌∷◌, [], map, ◌+◌}
-use Rattle.std.specs.Prelude.{codes}
 use Rattle.std.proofs.lemmas.Result.{on_ok_weaker}
-use Rattle.frag_words.specs.Lines.{text}
 use Rattle.frag_tree.specs.Phrases.{says}
 use Rattle.frag_tree.specs.declared.phrase.Phrase.TheVariants as phrase
 use Rattle.frag_tree.specs.Blocks.{access_line}

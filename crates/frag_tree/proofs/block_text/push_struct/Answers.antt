@@ -1,7 +1,6 @@
 use Rattle.std.proofs.Common.{◌∷◌, [], map, ◌+◌}
-use Rattle.std.specs.Prelude.{codes}
 use Rattle.std.proofs.lemmas.Result.{on_ok_weaker}
-use Rattle.frag_words.specs.Lines.{text, fixed, braced}
+use Rattle.frag_words.specs.Lines.{fixed, braced}
 use Rattle.frag_tree.specs.Phrases.{text_of, says}
 use Rattle.frag_tree.specs.declared.phrase.Phrase.TheVariants as phrase
 use Rattle.frag_tree.specs.Blocks.{field_line}

@@ -1,4 +1,3 @@
-use Rattle.std.specs.Prelude.{codes}
 use Rattle.std.proofs.lemmas.Result.{on_ok_weaker}
 use Rattle.frag_words.specs.Lines.{fixed}
 use Rattle.frag_tree.specs.Phrases.{text_of}

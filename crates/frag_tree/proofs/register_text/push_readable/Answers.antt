@@ -1,4 +1,3 @@
-use Rattle.std.specs.Prelude.{codes}
 use Rattle.frag_words.specs.Lines.{fixed}
 use Rattle.frag_tree.specs.Phrases.{text_of}
 use Rattle.frag_tree.specs.declared.phrase.Phrase.TheVariants as phrase

@@ -1,7 +1,6 @@
 use Rattle.std.proofs.Common.{◌∷◌, []}
-use Rattle.std.specs.Prelude.{codes}
 use Rattle.std.proofs.lemmas.Result.{on_ok_weaker}
-use Rattle.frag_words.specs.Lines.{text, word, line_text}
+use Rattle.frag_words.specs.Lines.{word, line_text}
 use Rattle.frag_tree.specs.Phrases.{text_of, says, receiver}
 use Rattle.frag_tree.specs.declared.phrase.Phrase.TheVariants as phrase
 use Rattle.frag_tree.specs.Blocks.{element_pieces, body_pieces}
