@@ -1,3 +1,6 @@
+ghost use Rattle.std.specs.Prelude.{◌≡◌};
+ghost use Rattle.frag_tree.specs.Trees.{takes_index};
+
 use crate::block::Block;
 use crate::identifier::Identifier;
 use pac_base::Seq;
@@ -9,6 +12,18 @@ pub enum Version {
     One,
     /// The text begins with `pub const CRATE_TEXT: u32 = 0x2;`, and readers and writers may take one.
     Two,
+}
+
+impl Version {
+    /// Whether a call of a field may take an index.
+    pub fn takes_index(self) -> bool
+        ensures { result ≡ takes_index self }
+    {
+        match self {
+            Version::One => false,
+            Version::Two => true,
+        }
+    }
 }
 
 /// A crate: its slots, and a block module for each kind of peripheral

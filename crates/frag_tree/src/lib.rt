@@ -11,6 +11,7 @@ mod identifier;
 mod krate;
 mod laws;
 mod line;
+mod phrase;
 mod register;
 mod register_text;
 mod script;
@@ -25,9 +26,11 @@ pub use event::{Event, Events, Said};
 pub use identifier::{Identifier, IdentifierFault};
 pub use krate::{Crate, Slot, Version};
 pub use laws::{crate_law, readings_law, words_law};
+pub use phrase::{Phrase, receiver, receiver_mut};
 pub use register::{
     BitKind, Constant, NumberCall, ReadForm, Reader, RegisterModule, Spot, TruthCall, Values,
     Writable, WriteForm, Writer,
 };
 pub use script::{Script, ScriptLine};
 pub use statement::{Atom, Call, Link, Place, Source, Statement, Value};
+pub use word::{kind_word, truth_word, width_word};

@@ -1,3 +1,6 @@
+ghost use Rattle.std.specs.Prelude.{◌≡◌};
+ghost use Rattle.frag_tree.specs.Trees.{is_indexed};
+
 use crate::identifier::Identifier;
 use pac_base::{Seq, Width};
 
@@ -56,6 +59,18 @@ pub enum Spot {
         /// How many members there are.
         count: u64,
     },
+}
+
+impl Spot {
+    /// Whether a call of the field takes an index.
+    pub fn is_indexed(&self) -> bool
+        ensures { result ≡ is_indexed self.now }
+    {
+        match self {
+            Spot::Fixed(_) => false,
+            Spot::Indexed { .. } => true,
+        }
+    }
 }
 
 /// A call that reads a field: `pub fn NAME(&self) -> READER { .. }`, with `, n: usize` behind `&self`
