@@ -9,7 +9,9 @@ pub mod Rules
 pub mod KeptWords
 pub mod Events
 pub mod Typings
+pub mod Picking
 pub mod Walking
+pub mod Reaching
 pub mod Likeness
 pub mod PlacesFound
 pub mod MeansOne

@@ -17,5 +17,7 @@ pub mod Likeness
 pub mod TextMeaning
 pub mod PlaceIs
 pub mod Means
-pub mod Worked
+pub mod WorkedCrates
+pub mod WorkedEvents
+pub mod WorkedTyping
 pub mod Laws

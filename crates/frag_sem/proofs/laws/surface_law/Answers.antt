@@ -1,4 +1,5 @@
-use Rattle.frag_sem.proofs.Walking.{calls_are_there, calls_by_modules, faults_by_modules, slots_by_name}
+use Rattle.frag_sem.proofs.Reaching.{calls_are_there}
+use Rattle.frag_sem.proofs.Walking.{calls_by_modules, faults_by_modules, slots_by_name}
 use Rattle.frag_sem.proofs.laws.surface_law.Goals as goal
 
 pub returns-clause-modules : goal.returns-clause-modules
