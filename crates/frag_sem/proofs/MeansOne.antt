@@ -1,6 +1,7 @@
 -- What a script means with nothing missing is its meaning.
-use Rattle.std.proofs.Common.{ℕ, ◌≡◌, Bool, true, false, cond, List, [], ◌∷◌, ◌++◌, map, find, drop, Option, Some, None, option_map, bytes_eq, refl, sym, ap, ap₂, ◌∙◌, mod-eq_of_lt, mul-le-mul_right, mul_comm, arith, ◌-◌, ◌*◌, ◌≤◌, ◌<◌}
+use Rattle.std.proofs.Common.{ℕ, ◌≡◌, Bool, true, false, cond, List, [], ◌∷◌, ◌++◌, map, find, drop, Option, Some, None, option_map, bytes_eq, refl, sym, ap, ap₂, ◌∙◌, mod-eq_of_lt, mul-le-mul_right, mul_comm, arith, ◌-◌, ◌*◌, ◌≤◌, ◌<◌, filter_map}
 use Rattle.std.specs.Prelude.{codes, if◌then◌else◌, unwrap_or, IsSomeAnd}
+use Rattle.std.specs.List.{cons_option}
 use Rattle.pac_base.specs.Widths.{bits_of}
 use Rattle.pac_base.specs.declared.width.Width.{Width}
 use Rattle.frag_tree.specs.declared.event.Event.{Event}
@@ -33,14 +34,15 @@ use Rattle.frag_tree.specs.declared.statement.Statement.TheVariants as statement
 use Rattle.frag_tree.specs.declared.statement.Value.{Value}
 use Rattle.frag_tree.specs.Trees.{CrateTree}
 use Rattle.frag_sem.specs.CallPlaces.{RegisterAt, register_at}
-use Rattle.frag_sem.specs.Laws.{MeansOne, MembersLieLower}
+use Rattle.frag_sem.specs.Laws.{MeansOne, MembersLieLower, PresetsOne}
 use Rattle.frag_sem.specs.Meaning.{ActsAt, Bound, Outcome, Standing, argument, at_place, atom_value, bits_of_bound, bound_as, chain_written, events_then, field_of_bound, let_outcome, lines_meaning, link_written, meaning, modify_outcome, names_within, negated, number_said, outcome_of, reset_outcome, source_value, value_of, write_outcome}
-use Rattle.frag_sem.specs.Means.{AtomIs, BitTakes, BitsTake, ChainMakes, CompareGives, FieldGives, FormGives, FormMakes, Held, Known, LinesMean, LinkMakes, Means, Negated, SourceIs, SpotIs, StatementMeans, TestGives, ValueIs, answer_at, held_as, held_within, start_of}
+use Rattle.frag_sem.specs.Means.{AtomIs, BitTakes, BitsTake, ChainMakes, CompareGives, FieldGives, FormGives, FormMakes, Held, Known, LinesMean, LinkMakes, Means, Negated, PresetsAre, SourceIs, SpotIs, StatementMeans, TestGives, ValueIs, answer_at, held_as, held_within, start_of}
 use Rattle.frag_sem.specs.PreludeCalls.{bit_tests, bit_writes}
 use Rattle.frag_sem.specs.PreludeWords.{as_bits, bit_of, is_set, start_word, taken, written}
 use Rattle.frag_sem.specs.ProxyTypes.{numbers_on, reader_type, truths_on, writer_type}
+use Rattle.frag_sem.specs.Presets.{Preset, called_places, preset_of, presets}
 use Rattle.frag_sem.specs.Spots.{spot_at}
-use Rattle.frag_sem.specs.TextMeaning.{acts_at, bit_given, bits_given, compared_number, compared_truth, field_given, field_written, form_given, form_written, number_or, reader_given, reader_named, started, text_acts, text_at, text_meaning, truth_or, writer_named, writer_written}
+use Rattle.frag_sem.specs.TextMeaning.{acts_at, bit_given, bits_given, compared_number, compared_truth, field_given, field_written, form_given, form_written, number_or, reader_given, reader_named, started, text_acts, text_at, text_meaning, text_presets, truth_or, writer_named, writer_written}
 use Rattle.frag_sem.proofs.PlacesFound.{place_found}
 
 -- ---- bound names
@@ -232,3 +234,18 @@ lines_are krate (line ∷ lines) known events h =
 pub means_one : MeansOne
 unfolding Means text_meaning meaning
 means_one krate script answers events h = sym (lines_are krate script.lines (record { answers = answers; names = [] }) events h)
+
+-- ---- presets
+
+presets_is : (krate : CrateTree) (places : List Place) (all : List Preset) → PresetsAre krate places all → all ≡ filter_map (λ place. option_map preset_of (text_at krate place)) places
+unfolding PresetsAre
+presets_is krate [] all h = h
+presets_is krate (place ∷ places) all h =
+    let first : Preset = record { address = h.found.address; width = h.found.register.word; value = h.found.register.reset.value } in
+    h.presets_are
+    ∙ (ap (λ others. first ∷ others) (presets_is krate places h.others h.others_are)
+    ∙ ap (λ o. cons_option (option_map preset_of (option_map acts_at o)) (filter_map (λ other. option_map preset_of (text_at krate other)) places)) (sym (place_found krate place h.found h.place_is)))
+
+pub presets_one : PresetsOne
+unfolding text_presets presets
+presets_one krate script all h = presets_is krate (called_places script) all h

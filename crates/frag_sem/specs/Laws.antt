@@ -29,7 +29,7 @@ use Rattle.frag_sem.specs.TextSurface.{register_calls, text_surface}
 use Rattle.frag_sem.specs.Likeness.{AlikePlaces, KeepsWords}
 use Rattle.frag_sem.specs.Meaning.{Places, meaning, next_answer}
 use Rattle.frag_sem.specs.Means.{Means, PresetsAre, SpotIs}
-use Rattle.frag_sem.specs.Presets.{called_places, presets}
+use Rattle.frag_sem.specs.Presets.{Preset, called_places, presets}
 use Rattle.frag_sem.specs.TextMeaning.{text_acts, text_meaning, text_presets}
 use Rattle.frag_sem.specs.PreludeWords.{as_bits, bit_of, is_set, ones, start_word, taken, written}
 
@@ -194,6 +194,10 @@ FittingMeans = (krate : CrateTree) → CrateFits krate → (script : Script) →
 -- At each place that it calls stands a register, and that has its preset.
 abbrev pub FittingPresets : Type 0
 FittingPresets = (krate : CrateTree) → CrateFits krate → (script : Script) → script_fault (text_surface krate) script ≡ None → PresetsAre krate (called_places script) (text_presets krate script)
+
+-- Whatever presets places have so, they are one list at most.
+abbrev pub PresetsOne : Type 0
+PresetsOne = (krate : CrateTree) (script : Script) (presets : List Preset) → PresetsAre krate (called_places script) presets → presets ≡ text_presets krate script
 
 -- ---- likeness
 

@@ -42,7 +42,7 @@ pub record ActsAt : Type 0 where
 abbrev pub Places : Type 0
 Places = Place → Option ActsAt
 
--- Where something isn't there, nothing is done, and it gives 0. No script that fits comes to that.
+-- Where something isn't there, nothing is done, and it gives 0. Against a crate text that fits, no script that fits comes to that.
 
 -- a name that is bound: its register, and the word that was read
 pub record Bound : Type 0 where

@@ -1,8 +1,8 @@
-// The laws of layouts and of the words that readers and writers make.
-ghost use Rattle.frag_sem.specs.Laws.{AlikeMean, AlikePreset, BitReaderGets, CallsAreThere, CallsByModules, CutEndsDecide, EndsDecide, EndsGrow, EventsAreFew, EventsInRange, FaultsByModules, FieldsAligned, FieldsApart, FitsByTests, FittingMeans, FittingPresets, MeansOne, MembersLieLower, PlaceBehindEnd, PlaceBehindGap, PlacesAreRegisters, PresetsInRange, ReaderGets, ReadsAreAnswered, ReadsWritten, RefusedByTests, SizeReaches, SlotsByName, StartStays, StartWithoutMasks, StartWordIsStart, TextKeepsWords, VersionKeeps, WriterPuts, WrittenStays};
+// The laws of layouts, words, typing, meaning and surfaces.
+ghost use Rattle.frag_sem.specs.Laws.{AlikeMean, AlikePreset, BitReaderGets, CallsAreThere, CallsByModules, CutEndsDecide, EndsDecide, EndsGrow, EventsAreFew, EventsInRange, FaultsByModules, FieldsAligned, FieldsApart, FitsByTests, FittingMeans, FittingPresets, MeansOne, MembersLieLower, PlaceBehindEnd, PlaceBehindGap, PlacesAreRegisters, PresetsInRange, PresetsOne, ReaderGets, ReadsAreAnswered, ReadsWritten, RefusedByTests, SizeReaches, SlotsByName, StartStays, StartWithoutMasks, StartWordIsStart, TextKeepsWords, VersionKeeps, WriterPuts, WrittenStays};
 
 /// Where the fields of a struct stand: behind a gap that ends at a multiple of the alignment, there; and
-/// no two of them share a byte.
+/// no two of them share a byte. A further field makes no struct end earlier, and a block is as large.
 pub fn layout_law()
     ensures behind_gap { PlaceBehindGap }
     ensures behind_end { PlaceBehindEnd }
@@ -30,7 +30,8 @@ pub fn writer_law()
 {}
 
 /// The tests of the typing rules decide whether a crate fits, and with which kind it is refused; the
-/// greatest end in each block decides whether all its registers are in the address range.
+/// greatest end in each block, cut or not, decides whether all its registers are in the address range; and
+/// the last member of a field decides where the others may lie.
 pub fn typing_law()
     ensures fits { FitsByTests }
     ensures refused { RefusedByTests }
@@ -40,7 +41,8 @@ pub fn typing_law()
 {}
 
 /// Each read of a script has the next answer. The events of a script and the presets before it are accesses
-/// below 2^64 of values of their width, and there are at most two events for each statement.
+/// below 2^64 of values of their width, and there are at most two events for each statement. The version of
+/// the text changes none of it.
 pub fn meaning_law()
     ensures places { PlacesAreRegisters }
     ensures answers { ReadsAreAnswered }
@@ -50,12 +52,13 @@ pub fn meaning_law()
     ensures version { VersionKeeps }
 {}
 
-/// A script that fits a crate that fits is meant in each of its parts: its events are those of a relation
-/// that has no case for what isn't there, which gives one list at most.
+/// A script that fits a crate that fits is meant in each of its parts: its events and its presets are those
+/// of relations that have no case for what isn't there, and give one list at most.
 pub fn fitting_law()
     ensures means { FittingMeans }
     ensures one { MeansOne }
     ensures presets { FittingPresets }
+    ensures one_presets { PresetsOne }
 {}
 
 /// A script means the same, and has the same presets, wherever alike registers stand at each place: what a
