@@ -2,7 +2,7 @@
 use Rattle.std.proofs.Common.{ℕ, zero, suc, ◌≡◌, ◌<◌, ◌≤◌, arith, List, [], ◌∷◌, length, length-append, Bool, true, false, Option, Some, None, refl, sym, ap, ◌∙◌, drop}
 use Rattle.std.specs.Prelude.{codes, if◌then◌else◌}
 use Rattle.text_scan.specs.Steps.{◌>>=◌}
-use Rattle.frag_words.specs.Words.{Word, words_in, words_behind}
+use Rattle.frag_words.specs.Words.{Word, words_behind}
 use Rattle.frag_words.specs.Readings.{expected, then_read, word_is}
 use Rattle.frag_words.proofs.Readings.{expected_some, some_is, then_some}
 use Rattle.frag_tree.specs.declared.krate.Version.{Version}

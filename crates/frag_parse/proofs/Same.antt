@@ -3,7 +3,7 @@ use Rattle.std.proofs.Common.{ℕ, ◌≡◌, List, [], ◌∷◌, Bool, true, f
 use Rattle.std.specs.Prelude.{codes, drop, if◌then◌else◌}
 use Rattle.text_scan.specs.Steps.{◌>>=◌}
 use Rattle.text_scan.specs.Numbers.{value_of}
-use Rattle.frag_words.specs.Words.{Word, words_in}
+use Rattle.frag_words.specs.Words.{Word}
 use Rattle.frag_words.specs.Readings.{Reading, among, fixed_words, list_until, then_read, truth_of as side_truth, word_is}
 use Rattle.frag_tree.specs.Identifiers.{is_identifier}
 use Rattle.frag_tree.specs.Numerals.{decimal_word, hexadecimal_word, truth_word, width_word}

@@ -15,7 +15,6 @@ use Rattle.frag_parse.specs.declared.fault.Refusal.{Refusal}
 use Rattle.frag_parse.specs.declared.fault.Refusal.TheVariants as refusal
 use Rattle.frag_parse.specs.declared.fault.Stop.{Stop}
 use Rattle.frag_parse.specs.declared.fault.Stop.TheVariants as stop
-use Rattle.frag_tree.specs.declared.phrase.Phrase.TheVariants as phrase
 use Rattle.frag_parse.specs.Depth.{Deep, IsDeep, Refuses, Tells}
 use Rattle.frag_parse.specs.Nesting.{crate_within}
 use Rattle.frag_parse.specs.Parsing.{DeepCrate, IsCrateOf, IsParsedAs, RefusedFor}

@@ -8,8 +8,8 @@ ghost use Rattle.frag_parse.specs.Reading.{block_at, module_at};
 
 use crate::fault::Refusal;
 use crate::head::block_head;
-use crate::sign::Sign;
 use crate::register::register;
+use crate::sign::Sign;
 use crate::starts::Starts;
 use crate::token::{expect, is_at, left_at};
 use frag_tree::{Block, Module, Phrase, Version};

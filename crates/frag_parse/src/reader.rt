@@ -110,11 +110,7 @@ fn typed_reader(alloc: Global, is_indexed: bool, text: &[u8]) -> Result<(Reader,
 
 /// A call that reads a field. In version 1 none takes an index.
 #[tactic(auto, unfolding(crate::specs::Reading::reader_at))]
-pub(crate) fn reader(
-    alloc: Global,
-    version: Version,
-    text: &[u8],
-) -> Result<(Reader, &[u8]), Stop>
+pub(crate) fn reader(alloc: Global, version: Version, text: &[u8]) -> Result<(Reader, &[u8]), Stop>
     ensures { Gives (λ found. (found.0, words_in found.1.now)) result (reader_at version (words_in text.now)) }
 {
     if takes_index(version, text, 6) {

@@ -5,8 +5,8 @@ ghost use Rattle.frag_parse.specs.Reading.{Gives, parts_at, readers_at, readers_
 use crate::constant::{readable, reset, writable_part};
 use crate::fault::Stop;
 use crate::list::{Begins, braced, many};
-use crate::sign::Sign;
 use crate::production::{Markers, Readers, ValueBlocks, Writers};
+use crate::sign::Sign;
 use crate::starts::Starts;
 use crate::token::{expect, identifier, is_impl};
 use crate::word::width;

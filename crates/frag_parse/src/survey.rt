@@ -6,8 +6,8 @@ ghost use Rattle.frag_parse.specs.Survey.{inner_at, step_at, survey_at, surveyed
 use crate::fault::Stop;
 use crate::head::block_head;
 use crate::opening::opening;
-use crate::sign::Sign;
 use crate::register::register;
+use crate::sign::Sign;
 use crate::starts::Starts;
 use crate::token::{expect, is_at, is_end};
 use frag_tree::{Phrase, Version};
@@ -16,7 +16,12 @@ use std::alloc::Global;
 /// How many modules are open behind the head of a block module, or behind a register module, where so
 /// many are open before it; and what follows it.
 #[tactic(auto, unfolding(crate::specs::Survey::inner_at))]
-fn inner(alloc: Global, version: Version, unclosed: usize, text: &[u8]) -> Result<(usize, &[u8]), Stop>
+fn inner(
+    alloc: Global,
+    version: Version,
+    unclosed: usize,
+    text: &[u8],
+) -> Result<(usize, &[u8]), Stop>
     requires { unclosed + length (words_in text.now) < 2 ^ 64 }
     ensures { Gives (λ found. (found.0, words_in found.1.now)) result (inner_at version unclosed (words_in text.now)) }
 {
@@ -32,7 +37,12 @@ fn inner(alloc: Global, version: Version, unclosed: usize, text: &[u8]) -> Resul
 /// How many block modules are open behind the next head, register module or closing brace, where so many
 /// are open before it; and what follows it.
 #[tactic(auto, unfolding(crate::specs::Survey::step_at))]
-fn step(alloc: Global, version: Version, unclosed: usize, text: &[u8]) -> Result<(usize, &[u8]), Stop>
+fn step(
+    alloc: Global,
+    version: Version,
+    unclosed: usize,
+    text: &[u8],
+) -> Result<(usize, &[u8]), Stop>
     requires { unclosed + length (words_in text.now) < 2 ^ 64 }
     ensures { Gives (λ found. (found.0, words_in found.1.now)) result (step_at version unclosed (words_in text.now)) }
 {

@@ -5,8 +5,8 @@ ghost use Rattle.frag_parse.specs.Reading.{Gives, bit_reading_at, bit_writing_at
 use crate::fault::Stop;
 use crate::list::{Begins, braced};
 use crate::numeral::decimal;
-use crate::sign::Sign;
 use crate::production::{NumberCalls, TruthCalls};
+use crate::sign::Sign;
 use crate::starts::Starts;
 use crate::token::{expect, identifier, is_at};
 use crate::word::{kind, width};
@@ -26,7 +26,13 @@ fn bit_reading<'a>(
     let rest = expect(text, Phrase::BitReaderImpl)?;
     let (marker, rest) = identifier(alloc, rest)?;
     let rest = expect(rest, Phrase::OpensCalls)?;
-    let (calls, rest) = braced(alloc, starts, &TruthCalls { reads: true }, Begins::Pub, rest)?;
+    let (calls, rest) = braced(
+        alloc,
+        starts,
+        &TruthCalls { reads: true },
+        Begins::Pub,
+        rest,
+    )?;
     Ok((Values::BitReading { marker, calls }, rest))
 }
 
@@ -44,7 +50,13 @@ fn field_reading<'a>(
     let rest = expect(rest, Phrase::ThenNext)?;
     let (width, rest) = width(rest)?;
     let rest = expect(rest, Phrase::OpensCalls)?;
-    let (calls, rest) = braced(alloc, starts, &NumberCalls { reads: true }, Begins::Pub, rest)?;
+    let (calls, rest) = braced(
+        alloc,
+        starts,
+        &NumberCalls { reads: true },
+        Begins::Pub,
+        rest,
+    )?;
     let values = Values::FieldReading {
         marker,
         width,
@@ -67,7 +79,13 @@ fn bit_writing<'a>(
     let rest = expect(rest, Phrase::OfSpecInImpl)?;
     let (marker, rest) = identifier(alloc, rest)?;
     let rest = expect(rest, Phrase::OpensCalls)?;
-    let (calls, rest) = braced(alloc, starts, &TruthCalls { reads: false }, Begins::Pub, rest)?;
+    let (calls, rest) = braced(
+        alloc,
+        starts,
+        &TruthCalls { reads: false },
+        Begins::Pub,
+        rest,
+    )?;
     let values = Values::BitWriting {
         kind,
         marker,
@@ -90,7 +108,13 @@ fn field_bits<'a>(
     let rest = expect(text, Phrase::ThenNext)?;
     let (bits, rest) = decimal(alloc, rest)?;
     let rest = expect(rest, Phrase::OpensCalls)?;
-    let (calls, rest) = braced(alloc, starts, &NumberCalls { reads: false }, Begins::Pub, rest)?;
+    let (calls, rest) = braced(
+        alloc,
+        starts,
+        &NumberCalls { reads: false },
+        Begins::Pub,
+        rest,
+    )?;
     let values = Values::FieldWriting {
         marker,
         width,

@@ -108,11 +108,7 @@ fn typed_writer(alloc: Global, is_indexed: bool, text: &[u8]) -> Result<(Writer,
 
 /// A call that writes a field. In version 1 none takes an index.
 #[tactic(auto, unfolding(crate::specs::Reading::writer_at))]
-pub(crate) fn writer(
-    alloc: Global,
-    version: Version,
-    text: &[u8],
-) -> Result<(Writer, &[u8]), Stop>
+pub(crate) fn writer(alloc: Global, version: Version, text: &[u8]) -> Result<(Writer, &[u8]), Stop>
     ensures { Gives (λ found. (found.0, words_in found.1.now)) result (writer_at version (words_in text.now)) }
 {
     if takes_index(version, text, 7) {

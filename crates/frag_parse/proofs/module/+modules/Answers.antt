@@ -23,7 +23,7 @@ block-returns-in_err-modules t c =
 pub block-returns : goal.block-returns
 block-returns t c =
     let parts : Block-F Module Block = record { name = c.in_ok-head.head.name; fields = c.in_ok-head.head.fields; accessors = c.in_ok-head.head.accessors; modules = c.in_ok-modules.modules } in
-    block_done c.args.inside (words_in c.args.text.now) (words_in c.in_ok-head.rest.now) (words_in c.in_ok-modules.rest.now) (head_told c.in_ok-head.head) c.in_ok-modules.modules.items (roll-Block parts) c.in_ok-head.ensures c.in_ok-modules.ensures (block_tree-roll parts)
+    block_done c.args.version c.args.inside (words_in c.args.text.now) (words_in c.in_ok-head.rest.now) (words_in c.in_ok-modules.rest.now) (head_told c.in_ok-head.head) c.in_ok-modules.modules.items (roll-Block parts) c.in_ok-head.ensures c.in_ok-modules.ensures (block_tree-roll parts)
 
 pub module-returns-in_err-block : goal.module-returns-in_err-block
 module-returns-in_err-block t c =
@@ -34,7 +34,7 @@ module-returns-in_err-block t c =
 pub module-returns-then-is_at : goal.module-returns-then-is_at
 module-returns-then-is_at t c =
     let deep : c.args.depth ≡ suc c.in-Some.inside = omega (arith, c.in-Some.ensures.0, c.in-Some.ensures.1) in
-    module_done c.args.depth c.in-Some.inside (words_in c.args.text.now) (words_in c.in_ok-block.rest.now) c.in_ok-block.block deep (sym c.if-is_at.ensures) c.in_ok-block.ensures
+    module_done c.args.version c.args.depth c.in-Some.inside (words_in c.args.text.now) (words_in c.in_ok-block.rest.now) c.in_ok-block.block deep (sym c.if-is_at.ensures) c.in_ok-block.ensures
 
 pub module-returns-in_err-unit : goal.module-returns-in_err-unit
 module-returns-in_err-unit t c =
@@ -44,7 +44,7 @@ module-returns-in_err-unit t c =
 pub module-returns : goal.module-returns
 module-returns t c =
     let deep : c.args.depth ≡ suc c.in-Some.inside = omega (arith, c.in-Some.ensures.0, c.in-Some.ensures.1) in
-    register_done c.args.depth c.in-Some.inside (words_in c.args.text.now) (words_in c.in_ok-unit.rest.now) c.in_ok-unit.unit deep (sym c.if-is_at.ensures) c.in_ok-unit.ensures
+    register_done c.args.version c.args.depth c.in-Some.inside (words_in c.args.text.now) (words_in c.in_ok-unit.rest.now) c.in_ok-unit.unit deep (sym c.if-is_at.ensures) c.in_ok-unit.ensures
 
 pub modules-returns-in_err-module : goal.modules-returns-in_err-module
 modules-returns-in_err-module t c =
