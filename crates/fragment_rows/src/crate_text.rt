@@ -104,6 +104,9 @@ fn version_two_is_printed_as_it_was_read(rt: HostRuntime) -> Result<(), Fail> {
     Ok(())
 }
 
+// Up to this byte, behind its slots, the text is a crate without modules.
+const SLOTS: usize = 134;
+
 // The text with one byte in the place of another.
 fn spoiled(alloc: Global, place: usize) -> Result<Vec<u8>, Fail> {
     let mut bytes = Vec::from_slice(alloc, INDEXED.as_bytes())?;
@@ -126,7 +129,7 @@ fn no_part_of_version_two_can_be_left_out(rt: HostRuntime) -> Result<(), Fail> {
             continue;
         }
         let front = whole.split_at(place).0;
-        assert!(rt; is_syntax(rt.alloc(), front), "up to {place}");
+        assert!(rt; is_syntax(rt.alloc(), front) == (place != SLOTS), "up to {place}");
         let other = spoiled(rt.alloc(), place)?;
         assert!(rt; is_syntax(rt.alloc(), other.as_slice()), "at {place}");
     }
