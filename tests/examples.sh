@@ -1,6 +1,7 @@
 #!/usr/bin/env bash
 # The checks that need the built program: each description under examples/ that has a listing beside it is listed
-# so, and `./pac` works through a symbolic link. Says nothing where all hold, and ends with 1 where one doesn't.
+# so, real files and outputs that fail are told so, and `./pac` works through a symbolic link. Says nothing where
+# all hold, and ends with 1 where one doesn't.
 top="$(cd "$(dirname "$0")/.." && pwd)" || exit 1
 program="$top/crates/pac_main/out/pac_main"
 failed=0
@@ -26,11 +27,27 @@ for listing in "$top"/examples/*.txt; do
 done
 [ "$listed" -gt 0 ] || fail "no listing stands under examples/"
 
+# fails STATUS LINE WHAT: the last run's status and line, and that nothing went to standard output.
+fails() {
+    [ "$status" -eq "$1" ] || fail "$3: status $status instead of $1"
+    grep -q -- "^pac: $2" "$folder/err" || fail "$3: $(cat "$folder/err")"
+    [ -s "$folder/out" ] && fail "$3: something went to standard output"
+}
+
+"$program" list "$folder/none.svd" >"$folder/out" 2>"$folder/err"
+status=$?
+fails 3 "cannot read $folder/none.svd$" 'a file that is not there'
+"$program" list "$folder" >"$folder/out" 2>"$folder/err"
+status=$?
+fails 3 "cannot read $folder$" 'a folder'
+: >"$folder/out"
+"$program" list "$top/examples/timer.svd" >/dev/full 2>"$folder/err"
+status=$?
+fails 4 'cannot write$' 'an output that is full'
+
 # No words are refused with the usage, through a link and from another folder too.
 ln -s "$top/pac" "$folder/pac"
 (cd "$folder" && ./pac) >"$folder/out" 2>"$folder/err"
 status=$?
-[ "$status" -eq 2 ] || fail "./pac through a link: status $status"
-grep -q '^pac: usage: ' "$folder/err" || fail "./pac through a link: $(cat "$folder/err")"
-[ -s "$folder/out" ] && fail "./pac through a link wrote to standard output"
+fails 2 'usage: ' './pac through a link'
 exit "$failed"

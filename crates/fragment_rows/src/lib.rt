@@ -1,7 +1,9 @@
-// The worked rows of the crate text and of scripts: whole calls that read, print and keep them, with
-// what each answers.
+// The worked rows of the crate text, of scripts and of buses: whole calls that read, print and keep them,
+// with what each answers.
 #![tactic(auto)]
 
+#[cfg(test)]
+mod buses;
 #[cfg(test)]
 mod crate_text;
 #[cfg(test)]
