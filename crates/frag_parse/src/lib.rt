@@ -18,8 +18,6 @@ mod register;
 mod slot;
 mod starts;
 mod survey;
-#[cfg(test)]
-mod tests;
 mod token;
 mod value_call;
 mod values;

@@ -11,8 +11,6 @@ mod part;
 mod place;
 mod script;
 mod statement;
-#[cfg(test)]
-mod tests;
 mod token;
 mod value;
 

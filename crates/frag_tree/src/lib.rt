@@ -15,8 +15,6 @@ mod register;
 mod register_text;
 mod script;
 mod statement;
-#[cfg(test)]
-mod tests;
 mod values_text;
 mod word;
 

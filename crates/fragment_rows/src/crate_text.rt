@@ -1,0 +1,117 @@
+use frag_parse::{ParseFault, parse_crate};
+use frag_tree::print_crate;
+use pac_io::{MemSink, SinkFault};
+use std::alloc::Global;
+use std::test::Fail;
+
+const EXAMPLE: &str = "use crate::generic::*;
+
+pub struct Peripherals {
+    pub T: Periph<t::RegisterBlock, 0x40000000>,
+}
+
+pub mod t {
+    use crate::generic::*;
+    #[repr(C)]
+    pub struct RegisterBlock {
+        sr: Reg<sr::Spec>,
+    }
+    impl RegisterBlock {
+        pub fn sr(&self) -> &Reg<sr::Spec> { &self.sr }
+    }
+    pub mod sr {
+        use crate::generic::*;
+        pub struct Spec;
+        impl RegisterSpec for Spec { type Ux = u32; }
+        impl Readable for Spec {}
+        impl Writable for Spec { const ZERO_TO_MODIFY: u32 = 0x0; const ONE_TO_MODIFY: u32 = 0x1; }
+        impl Resettable for Spec { const RESET_VALUE: u32 = 0x3; }
+        pub struct F0_F;
+        pub struct F1_F;
+        impl R<Spec> {
+            pub fn f0(&self) -> BitReader<F0_F> { BitReader::new(((self.bits >> 0) & 0x1) != 0x0) }
+            pub fn f1(&self) -> BitReader<F1_F> { BitReader::new(((self.bits >> 1) & 0x1) != 0x0) }
+        }
+        impl W<Spec> {
+            pub fn f0(&mut self) -> BitWriter1C<'_, Spec, F0_F> { BitWriter1C::new(self, 0) }
+            pub fn f1(&mut self) -> BitWriter<'_, Spec, F1_F> { BitWriter::new(self, 1) }
+        }
+    }
+}
+";
+
+// Where each item of it begins, in bytes: a slot, a block, a struct field, an accessor, a register,
+// two markers, two readers and two writers.
+const PLACES: [usize; 11] = [53, 101, 194, 252, 310, 642, 667, 719, 819, 952, 1046];
+
+#[test]
+fn what_is_read_is_printed_as_it_was(rt: HostRuntime) -> Result<(), Fail> {
+    let krate = parse_crate(rt.alloc(), EXAMPLE.as_bytes())?;
+    assert_eq!(rt; krate.places.as_slice(), PLACES.as_slice());
+    let mut sink = MemSink::new(rt.alloc());
+    print_crate(rt.alloc(), &krate, &mut sink)?;
+    assert_eq!(rt; sink.written(), EXAMPLE.as_bytes());
+    let mut failing = MemSink::new(rt.alloc());
+    failing.fail(1)?;
+    let printed = print_crate(rt.alloc(), &krate, &mut failing);
+    assert!(rt; matches!(printed, Err(SinkFault::Failed)));
+    Ok(())
+}
+
+// Where reading stopped, for a text that is no crate.
+fn syntax_at(alloc: Global, text: &str) -> Option<usize> {
+    match parse_crate(alloc, text.as_bytes()) {
+        Err(ParseFault::Syntax { at }) => Some(at),
+        _ => None,
+    }
+}
+
+// Texts, and the byte at which each stops being a crate.
+const WORDS: [(&str, Option<usize>); 3] = [
+    ("", Some(0)),
+    ("use crate::generic::*;", Some(22)),
+    // other white space, and a comment with a letter in it that is no ASCII
+    (
+        "use// \u{fc}\ncrate::generic::*;\tpub\r\nstruct Peripherals{}//",
+        None,
+    ),
+];
+
+#[test]
+fn edited_text_refused(rt: HostRuntime) -> Result<(), Fail> {
+    for (text, at) in WORDS {
+        assert_eq!(rt; syntax_at(rt.alloc(), text), at, "{text}");
+    }
+    let twice = format!(in rt.alloc(); "{EXAMPLE}{EXAMPLE}")?;
+    assert_eq!(rt; syntax_at(rt.alloc(), twice.as_str()), Some(1142));
+    Ok(())
+}
+
+const BLOCK: &str =
+    "pub mod b { use crate::generic::*; #[repr(C)] pub struct RegisterBlock {} impl RegisterBlock {}";
+
+// A crate with so many block modules, one in another, of which the last `left` stay open.
+fn nested(alloc: Global, depth: usize, left: usize) -> Result<String, Fail> {
+    let mut text = String::from_str(alloc, "use crate::generic::*; pub struct Peripherals {}")?;
+    for _ in 0..depth {
+        text.push_str(BLOCK)?;
+    }
+    for _ in left..depth {
+        text.push_str("}")?;
+    }
+    Ok(text)
+}
+
+#[test]
+fn modules_nest_64_deep(rt: HostRuntime) -> Result<(), Fail> {
+    let most = nested(rt.alloc(), 64, 0)?;
+    assert!(rt; parse_crate(rt.alloc(), most.as_bytes()).is_ok());
+    let more = nested(rt.alloc(), 65, 0)?;
+    let place = 48 + 64 * BLOCK.len();
+    let deep =
+        matches!(parse_crate(rt.alloc(), more.as_bytes()), Err(ParseFault::TooDeep { at }) if at == place);
+    assert!(rt; deep);
+    let broken = nested(rt.alloc(), 65, 1)?;
+    assert_eq!(rt; syntax_at(rt.alloc(), broken.as_str()), Some(broken.len()));
+    Ok(())
+}

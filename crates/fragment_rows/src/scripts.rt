@@ -1,0 +1,84 @@
+use frag_script::{ScriptFault, parse_script};
+use frag_tree::Statement;
+use std::alloc::Global;
+use std::test::Fail;
+
+// Scripts, and how many statements each has.
+const READ: [(&str, usize); 11] = [
+    ("let s = A.b().read();", 1),
+    ("A.b(0xF_f).write(|w| w);", 1),
+    ("A.b(1_0).c().write(|w| w.bits(!true).x().y());", 1),
+    ("A.b(007).write_with_zero(|w| w.x().y(r.bits() as u8));", 1),
+    ("A.b().modify(|r, w| w.x().bits(r.x().bits()));", 1),
+    ("A.b().modify(|_, w| w); // comment", 1),
+    ("A . reset ( ) . reset ( ) ;\r", 1),
+    ("say(!300);", 1),
+    ("say(18446744073709551615);", 1),
+    ("say.x().reset();", 1),
+    // the vendor's script
+    (
+        "TIM2.cr1().modify(|_, w| w.cen().enabled().ckd().bits(2));
+let s = TIM3.sr().read();
+say(s.uif().bit_is_set());
+TIM3.sr().write(|w| w.uif().clear_bit());
+TIM2.ccr(1).write(|w| w.bits(0x1f4));
+",
+        5,
+    ),
+];
+
+// Scripts, and the first line of each that holds no statement.
+const REFUSED: [(&str, u32); 9] = [
+    ("\n\nsay(1__0);", 3),
+    ("// \r\n\nsay(0x_1);", 3),
+    ("say(1);\n \t\r\nsay(1_);", 3),
+    ("\n\nsay(18446744073709551616);", 3),
+    ("\n\nA.read();", 3),
+    ("\n\nA.b().modify(|w| w);", 3),
+    ("\n\nlet let = A.b().read();", 3),
+    ("\n\nsay(1); say(1);", 3),
+    ("\n\nsay(1)\r;", 3),
+];
+
+// How many statements the text has, or its first wrong line; line 0 stands for any other fault.
+fn read(alloc: Global, text: &str) -> Result<usize, u32> {
+    if text.len() > 67_108_864 {
+        return Err(0);
+    }
+    match parse_script(alloc, text.as_bytes()) {
+        Ok(script) => Ok(script.lines.len()),
+        Err(ScriptFault::Syntax { line }) => Err(line),
+        Err(_) => Err(0),
+    }
+}
+
+#[test]
+fn scripts_with_their_statements(rt: HostRuntime) -> Result<(), Fail> {
+    for (text, count) in READ {
+        assert_eq!(rt; read(rt.alloc(), text).ok(), Some(count), "{text}");
+    }
+    for (text, line) in REFUSED {
+        assert_eq!(rt; read(rt.alloc(), text).err(), Some(line), "{text}");
+    }
+    Ok(())
+}
+
+#[test]
+fn a_statement_has_its_line(rt: HostRuntime) -> Result<(), Fail> {
+    let script = parse_script(rt.alloc(), b"\nA.b().modify(|_, w| w);")?;
+    let found = match script.lines.get(0) {
+        Some(first) => {
+            first.line == 2
+                && matches!(
+                    &first.statement,
+                    Statement::Modify {
+                        names_reader: false,
+                        ..
+                    }
+                )
+        }
+        None => false,
+    };
+    assert!(rt; found);
+    Ok(())
+}

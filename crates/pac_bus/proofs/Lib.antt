@@ -1,0 +1,4 @@
+pub mod Bytes
+pub mod Memories
+pub mod Acting
+pub mod EventLines

@@ -1,0 +1,12 @@
+pub mod Widths
+pub mod Memory
+pub mod Acts
+pub mod Telling
+pub mod Answers
+pub mod Journals
+pub mod Stores
+pub mod ZeroBus
+pub mod MemBus
+pub mod FailBus
+pub mod EventTexts
+pub mod Laws
