@@ -1,3 +1,5 @@
 pub mod Fields
 pub mod Forms
+pub mod Doings
+pub mod Laws
 pub mod Worked

@@ -6,7 +6,9 @@
 mod field;
 mod field_values;
 mod form;
+mod laws;
 mod register;
 
 pub use form::register_form;
+pub use laws::words_law;
 pub use register::{Field, FieldArray, Register};
