@@ -1,3 +1,4 @@
 pub mod Among
 pub mod OwnCalls
 pub mod Words
+pub mod Rules

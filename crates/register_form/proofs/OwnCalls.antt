@@ -20,7 +20,7 @@ use Rattle.register_form.proofs.Among.{Among}
 
 -- ---- types
 
-abbrev type_marker : ProxyType → List ℕ
+abbrev pub type_marker : ProxyType → List ℕ
 type_marker (bit_reader marker) = marker
 type_marker (field_reader marker width) = marker
 type_marker (bit_writer kind marker) = marker
@@ -34,7 +34,7 @@ false_and : (b c : Bool) → b ≡ false → (b && c) ≡ false
 false_and true c h = absurd cc
 false_and false c h = refl
 
-other_type : (T U : ProxyType) → bytes_eq (type_marker T) (type_marker U) ≡ false → same_type T U ≡ false
+pub other_type : (T U : ProxyType) → bytes_eq (type_marker T) (type_marker U) ≡ false → same_type T U ≡ false
 other_type (bit_reader one) (bit_reader other) h = h
 other_type (bit_reader one) (field_reader other also) h = refl
 other_type (bit_reader one) (bit_writer also other) h = refl

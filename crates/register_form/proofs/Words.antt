@@ -42,7 +42,7 @@ wide_enough false true c n p q r h = leb-true n 16 q
 wide_enough false false true n p q r h = leb-true n 32 r
 wide_enough false false false n p q r h = h
 
-least_holds : (n : ℕ) → n ≤ 64 → n ≤ bits_of (least_width n)
+pub least_holds : (n : ℕ) → n ≤ 64 → n ≤ bits_of (least_width n)
 least_holds n h = wide_enough (nat_le n 8) (nat_le n 16) (nat_le n 32) n refl refl refl h
 
 -- the spot of a field is its lowest bit, or that of the member
@@ -50,7 +50,7 @@ spot_is : (offset : ℕ) (array : Option FieldArray) (index : Option ℕ) → sp
 spot_is offset None index = refl
 spot_is offset (Some array) index = refl
 
-bit_width : (n : ℕ) → (n == 1) ≡ true → n ≡ 1
+pub bit_width : (n : ℕ) → (n == 1) ≡ true → n ≡ 1
 bit_width n h = grind (arith, nat_tests)
 
 -- ---- what is read
@@ -188,10 +188,10 @@ module _ (register : Register) (sound : RegisterIsSound register) where
       none field among true e = absurd (false≢true (some field among e))
       none field among false e = e
 
-  readers_here : readers_of (form_of register) ≡ readers_among register.fields
+  pub readers_here : readers_of (form_of register) ≡ readers_among register.fields
   readers_here = calls_here reader_of (λ (field : Field). field.readable) register.readable (λ field among. (all_among (FieldIsSound register) register.fields field sound.fields among).readable)
 
-  writers_here : writers_of (form_of register) ≡ writers_among register.fields
+  pub writers_here : writers_of (form_of register) ≡ writers_among register.fields
   writers_here = calls_here writer_of (λ (field : Field). field.writable) register.writable (λ field among. (all_among (FieldIsSound register) register.fields field sound.fields among).writable)
 
   given : (name : List ℕ) (index : Option ℕ) (method : List ℕ) (word : ℕ) → field_given (form_of register) name index method word ≡ field_got index method word (readable_named name register)

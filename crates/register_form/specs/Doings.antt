@@ -1,15 +1,17 @@
 -- What a register does with words: its fields are places in a word, told by division, and its masks are bits. Nothing of the text of its module is looked at.
-use Rattle.std.specs.Prelude.{ℕ, ◌≡◌, ◌+◌, ◌*◌, ◌^◌, ◌<◌, ◌≤◌, Bool, true, false, ◌==◌, List, [], ◌∷◌, ◌++◌, codes, filter, find, Option, Some, None, option_map, unwrap_or, if◌then◌else◌}
-use Rattle.std.specs.List.{AllByRecursion}
+use Rattle.std.specs.Prelude.{ℕ, ◌≡◌, ◌+◌, ◌*◌, ◌^◌, ◌<◌, ◌≤◌, Bool, true, false, ◌==◌, List, [], ◌∷◌, ◌++◌, codes, filter, find, Option, Some, None, option_map, unwrap_or, if◌then◌else◌, map, nat_le}
+use Rattle.std.specs.List.{AllByRecursion, list_all}
 use Rattle.std.specs.Str.{bytes_eq}
 use Rattle.bits_word.specs.Places.{get, put}
 use Rattle.pac_base.specs.Widths.{bits_of}
 use Rattle.frag_tree.specs.declared.event.Said.{Said}
 use Rattle.frag_tree.specs.declared.event.Said.TheVariants.{Number, Truth}
+use Rattle.frag_tree.specs.declared.krate.Version.{Version}
 use Rattle.frag_tree.specs.declared.register.BitKind.{BitKind}
 use Rattle.frag_tree.specs.declared.register.BitKind.TheVariants as kind
 use Rattle.frag_tree.specs.declared.register.NumberCall.{NumberCall}
 use Rattle.frag_sem.specs.CallPlaces.{admits}
+use Rattle.frag_sem.specs.CrateTyping.{is_free}
 use Rattle.frag_sem.specs.Modules.{are_distinct_names}
 use Rattle.register_form.specs.declared.register.Field.{Field}
 use Rattle.register_form.specs.declared.register.FieldArray.{FieldArray}
@@ -30,6 +32,10 @@ bit_in offset (Some array) index = offset + unwrap_or index 0 * array.step
 -- the lowest bit of a field; of an array, of the member of this index
 abbrev pub lowest_bit : Field → Option ℕ → ℕ
 lowest_bit field index = bit_in field.offset field.array index
+
+abbrev pub has_members : Option ℕ → Bool
+has_members None = true
+has_members (Some count) = nat_le 1 count
 
 -- ---- calls
 
@@ -115,3 +121,23 @@ pub record RegisterIsSound (register : Register) : Type 0 where
   pub one : register.one < 2 ^ bits_of register.word
   pub zero : register.zero < 2 ^ bits_of register.word
   pub no_masks : register.writable ≡ false → (register.one ≡ 0) × (register.zero ≡ 0)
+
+abbrev pub names_of : List NumberCall → List (List ℕ)
+names_of calls = map (λ (call : NumberCall). call.name) calls
+
+-- none of the names is one of the prelude
+abbrev pub AreFree : Version → List (List ℕ) → Type 0
+AreFree version names = list_all (is_free version) names ≡ true
+
+-- An array has a member; names of calls are distinct, and none is one of the prelude.
+pub record FieldIsNamed (version : Version) (field : Field) : Type 0 where
+  pub some : has_members (field_count field) ≡ true
+  pub free : is_free version field.name ≡ true
+  pub tests : are_distinct_names (names_of field.tests) ≡ true
+  pub free_tests : AreFree version (names_of field.tests)
+  pub sets : are_distinct_names (names_of field.sets) ≡ true
+  pub free_sets : AreFree version (names_of field.sets)
+
+pub record RegisterIsNamed (version : Version) (register : Register) : Type 0 where
+  pub names : are_distinct_names (map (λ (field : Field). field.name) register.fields) ≡ true
+  pub fields : AllByRecursion (FieldIsNamed version) register.fields

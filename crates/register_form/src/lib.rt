@@ -10,5 +10,5 @@ mod laws;
 mod register;
 
 pub use form::register_form;
-pub use laws::words_law;
+pub use laws::{rules_law, words_law};
 pub use register::{Field, FieldArray, Register};
