@@ -58,11 +58,11 @@ block_passes test true (call ∷ calls) block passes = and_from (test block) tru
 block_passes test false (call ∷ calls) block passes = refl
 
 -- the blocks of a field pass where its direction is there
-record Passes (test : Values → Bool) (field : Field) : Type 0 where
-  reads : field.readable ≡ true → test (read_values (is_bit field) field) ≡ true
-  writes : field.writable ≡ true → test (write_values (is_bit field) field) ≡ true
+pub record Passes (test : Values → Bool) (field : Field) : Type 0 where
+  pub reads : field.readable ≡ true → test (read_values (is_bit field) field) ≡ true
+  pub writes : field.writable ≡ true → test (write_values (is_bit field) field) ≡ true
 
-values_pass : (test : Values → Bool) (fields : List Field) → AllByRecursion (Passes test) fields → list_all test (values_among fields) ≡ true
+pub values_pass : (test : Values → Bool) (fields : List Field) → AllByRecursion (Passes test) fields → list_all test (values_among fields) ≡ true
 values_pass test [] all = refl
 values_pass test (field ∷ fields) all =
     both_pass test (values_of field) (values_among fields)
@@ -75,7 +75,7 @@ each_among : (P : Field → Type 0) (all fields : List Field) → ((field : Fiel
 each_among P all [] each inside = tt
 each_among P all (field ∷ fields) each inside = (each field (inside field (inl refl)), each_among P all fields each (λ other h. inside other (inr h)))
 
-every : (P : Field → Type 0) (fields : List Field) → ((field : Field) → Among field fields → P field) → AllByRecursion P fields
+pub every : (P : Field → Type 0) (fields : List Field) → ((field : Field) → Among field fields → P field) → AllByRecursion P fields
 every P fields each = each_among P fields fields each (λ field h. h)
 
 any_among : {X : Type 0} (test : X → Bool) (f : Field → X) (fields : List Field) (field : Field) → Among field fields → test (f field) ≡ true → list_any test (map f fields) ≡ true
@@ -254,7 +254,7 @@ spot_some : (offset : ℕ) (array : Option FieldArray) → has_members (option_m
 spot_some offset None some = refl
 spot_some offset (Some array) some = some
 
-less_test : (m n : ℕ) → m < n → nat_lt m n ≡ true
+pub less_test : (m n : ℕ) → m < n → nat_lt m n ≡ true
 less_test m n h = grind (arith, nat_tests, h)
 
 most_test : (m n : ℕ) → m ≤ n → nat_le m n ≡ true

@@ -2,9 +2,11 @@ ghost use Rattle.std.specs.Prelude.{◌≡◌, IfOk};
 ghost use Rattle.std.specs.List.{AllByRecursion};
 ghost use Rattle.register_form.specs.Fields.{HasBits};
 ghost use Rattle.register_form.specs.Forms.{constant, form_of, markers_of, masks_of, readers_among, values_among, where_true, writers_among};
+ghost use Rattle.register_form.specs.Numbers.{IsValid};
 
 use crate::field::{reader, writer};
 use crate::field_values::push_values;
+use crate::numbers::register_numbers;
 use crate::register::{Field, Register};
 use frag_tree::{Constant, Identifier, Reader, RegisterModule, Values, Writable, Writer};
 use pac_base::{NoMemory, Seq, Width};
@@ -89,8 +91,7 @@ fn writers_where(alloc: Global, register: &Register) -> Result<Option<Seq<Writer
     Ok(Some(writers(alloc, register.fields.as_slice())?))
 }
 
-/// The module of a register, of which each field has 1 to 64 bits.
-pub fn register_form(alloc: Global, register: &Register) -> Result<RegisterModule, NoMemory>
+fn module(alloc: Global, register: &Register) -> Result<RegisterModule, NoMemory>
     requires { AllByRecursion HasBits register.now.fields }
     ensures { IfOk result (λ made. made ≡ form_of register.now) }
 {
@@ -106,4 +107,15 @@ pub fn register_form(alloc: Global, register: &Register) -> Result<RegisterModul
         writers: writers_where(alloc, register)?,
         values: values(alloc, fields)?,
     })
+}
+
+/// The module of a register, of which each field has 1 to 64 bits.
+pub fn register_form(alloc: Global, register: &Register) -> Result<RegisterModule, NoMemory>
+    requires bits { AllByRecursion HasBits register.now.fields }
+    ensures form { IfOk result (λ made. made ≡ form_of register.now) }
+    ensures valid { IfOk result (IsValid register.now) }
+{
+    register_numbers(register);
+    let made = module(alloc, register)?;
+    Ok(made)
 }

@@ -7,6 +7,7 @@ mod field;
 mod field_values;
 mod form;
 mod laws;
+mod numbers;
 mod register;
 
 pub use form::register_form;
