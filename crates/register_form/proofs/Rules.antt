@@ -1,5 +1,5 @@
 -- The rules of typing hold of a register's module.
-use Rattle.std.proofs.Common.{ℕ, zero, suc, ◌≡◌, ◌+◌, ◌-◌, ◌*◌, ◌^◌, ◌<◌, ◌≤◌, Bool, true, false, cond, not, ◌&&◌, ◌||◌, ◌==◌, ◌⊎◌, inl, inr, List, [], ◌∷◌, ◌++◌, map, filter, flat_map, Option, Some, None, option_map, bytes_eq, refl, sym, ap, ap₂, subst, ◌∙◌, arith, nat_le, nat_lt, append_assoc}
+use Rattle.std.proofs.Common.{ℕ, zero, suc, ◌≡◌, ◌+◌, ◌-◌, ◌*◌, ◌^◌, ◌<◌, ◌≤◌, Bool, true, false, cond, not, ◌&&◌, ◌||◌, ◌⊎◌, inl, inr, List, [], ◌∷◌, ◌++◌, map, filter, flat_map, Option, Some, None, option_map, bytes_eq, refl, sym, ap, ap₂, subst, ◌∙◌, arith, nat_le, nat_lt, append_assoc}
 use Rattle.std.specs.Prelude.{is_some}
 use Rattle.std.specs.List.{AllByRecursion, list_all, list_any}
 use Rattle.std.proofs.Math.Nat.{mul_comm, pow-le-pow_right}
@@ -24,12 +24,12 @@ use Rattle.frag_sem.specs.Modules.{are_distinct}
 use Rattle.frag_sem.specs.PreludeWords.{ones, same_truth}
 use Rattle.frag_sem.specs.ProxyTypes.{ProxyType, read_type, reader_type, readers_of, same_type, same_width, types_of, value_names, values_type, write_type, writer_type, writers_of}
 use Rattle.frag_sem.specs.Spots.{last_spot, read_spot, spot_has_members, write_spot}
-use Rattle.frag_sem.proofs.Lists.{both_true, turned}
+use Rattle.frag_sem.proofs.Lists.{both_true}
 use Rattle.frag_sem.proofs.Words.{some_power}
 use Rattle.register_form.specs.declared.register.Field.{Field}
 use Rattle.register_form.specs.declared.register.FieldArray.{FieldArray}
 use Rattle.register_form.specs.declared.register.Register.{Register}
-use Rattle.register_form.specs.Doings.{CallsFit, FieldIsNamed, FieldIsSound, RegisterIsNamed, RegisterIsSound, bit_in, field_count, has_members, lowest_bit, names_of}
+use Rattle.register_form.specs.Doings.{CallsFit, FieldIsNamed, FieldIsSound, RegisterIsNamed, RegisterIsSound, bit_in, has_members, names_of}
 use Rattle.register_form.specs.Fields.{block_if, field_spot, is_bit, least_width, read_form, read_values, reader_of, spot_of, truth_call_of, values_of, write_form, write_values, writer_of}
 use Rattle.register_form.specs.Forms.{constant, form_of, markers_of, readers_among, values_among, where_true, writers_among, masks_of as masks_form}
 use Rattle.register_form.specs.Laws.{KeepsRules, RulesHold}

@@ -1,25 +1,20 @@
 -- The module of a register is a valid tree.
-use Rattle.std.proofs.Common.{ℕ, suc, ◌≡◌, ◌+◌, ◌-◌, ◌^◌, ◌<◌, ◌≤◌, Bool, true, false, cond, ◌&&◌, ◌||◌, ◌==◌, ◌⊎◌, inl, inr, List, [], ◌∷◌, ◌++◌, map, filter, flat_map, drop, drop-cons, length, get_or, Option, Some, None, refl, sym, ap, subst, ◌∙◌, arith, nat_lt, add-one}
+use Rattle.std.proofs.Common.{ℕ, suc, ◌≡◌, ◌+◌, ◌^◌, ◌<◌, ◌≤◌, Bool, true, false, ◌&&◌, ◌||◌, inl, inr, List, [], ◌∷◌, map, drop, drop-cons, length, get_or, Option, Some, None, refl, sym, ap, subst, ◌∙◌, arith, add-one}
 use Rattle.std.specs.Prelude.{is_some}
 use Rattle.std.specs.List.{AllByRecursion, list_all, list_any}
 use Rattle.std.proofs.Math.Nat.{pow-le-pow_right}
 use Rattle.std.proofs.lemmas.Bool.{and_from}
-use Rattle.std.proofs.lemmas.Bool.Decides.{nat_tests}
 use Rattle.frag_tree.specs.declared.krate.Version.{Version}
 use Rattle.frag_tree.specs.declared.register.NumberCall.{NumberCall}
-use Rattle.frag_tree.specs.declared.register.ReadForm.{ReadForm}
-use Rattle.frag_tree.specs.declared.register.Reader.{Reader}
-use Rattle.frag_tree.specs.declared.register.Values.{Values}
-use Rattle.frag_tree.specs.declared.register.Writer.{Writer}
 use Rattle.frag_tree.specs.Identifiers.{is_identifier}
-use Rattle.frag_tree.specs.Trees.{spot_read, spot_written, takes_index}
-use Rattle.frag_tree.specs.Validity.{is_number, stands_in, valid_constant, valid_number, valid_option, valid_read, valid_reader, valid_register, valid_spot, valid_truth, valid_values, valid_writable, valid_write, valid_writer}
+use Rattle.frag_tree.specs.Trees.{takes_index}
+use Rattle.frag_tree.specs.Validity.{is_number, stands_in, valid_number, valid_option, valid_reader, valid_register, valid_spot, valid_truth, valid_values, valid_writable, valid_writer}
 use Rattle.frag_sem.specs.PreludeWords.{ones}
 use Rattle.register_form.specs.declared.register.Field.{Field}
 use Rattle.register_form.specs.declared.register.FieldArray.{FieldArray}
 use Rattle.register_form.specs.declared.register.Register.{Register}
-use Rattle.register_form.specs.Fields.{HasBits, field_spot, is_bit, least_width, read_form, read_values, reader_of, spot_of, truth_call_of, write_form, write_values, writer_of}
-use Rattle.register_form.specs.Forms.{constant, form_of, has_arrays, markers_of, masks_of, readers_among, values_among, where_true, writers_among}
+use Rattle.register_form.specs.Fields.{HasBits, field_spot, is_bit, read_form, read_values, reader_of, spot_of, truth_call_of, write_form, write_values, writer_of}
+use Rattle.register_form.specs.Forms.{form_of, markers_of, masks_of, readers_among, values_among, where_true, writers_among}
 use Rattle.register_form.specs.Numbers.{ArrayIsNumbered, CallIsNumbered, FieldIsNumbered, IsValid, RegisterIsNumbered}
 use Rattle.register_form.proofs.Among.{Among, all_among}
 use Rattle.register_form.proofs.Rules.{Passes, every, less_test, picked_pass, values_pass}

@@ -1,20 +1,16 @@
 -- What the module of a register does with words.
-use Rattle.std.proofs.Common.{ℕ, zero, suc, ◌≡◌, ◌+◌, ◌%◌, ◌^◌, ◌<◌, ◌≤◌, Bool, true, false, ◌==◌, cond, List, [], ◌∷◌, ◌++◌, map, filter, find, Option, Some, None, IfSome, option_map, bytes_eq, refl, sym, ap, ap₂, subst, ◌∙◌, arith}
+use Rattle.std.proofs.Common.{ℕ, zero, suc, ◌≡◌, ◌^◌, ◌<◌, ◌≤◌, Bool, true, false, ◌==◌, cond, List, [], ◌++◌, map, filter, find, Option, Some, None, IfSome, option_map, bytes_eq, refl, sym, ap, ap₂, subst, ◌∙◌, arith}
 use Rattle.std.specs.Prelude.{codes, nat_le, unwrap_or}
-use Rattle.std.specs.List.{AllByRecursion}
 use Rattle.std.proofs.lemmas.Bool.{leb-true, false≢true}
 use Rattle.std.proofs.lemmas.Bool.Decides.{nat_tests}
 use Rattle.std.proofs.lemmas.List.{map-append}
 use Rattle.bits_word.specs.Places.{get, put}
 use Rattle.bits_word.specs.Start.{IsStart}
 use Rattle.pac_base.specs.Widths.{bits_of}
-use Rattle.frag_tree.specs.declared.event.Said.{Said}
 use Rattle.frag_tree.specs.declared.event.Said.TheVariants.{Number, Truth}
 use Rattle.frag_tree.specs.declared.register.BitKind.{BitKind}
 use Rattle.frag_tree.specs.declared.register.BitKind.TheVariants as kind
 use Rattle.frag_tree.specs.declared.register.NumberCall.{NumberCall}
-use Rattle.frag_tree.specs.declared.register.RegisterModule.{RegisterModule}
-use Rattle.frag_tree.specs.declared.register.TruthCall.{TruthCall}
 use Rattle.frag_sem.specs.CallPlaces.{admits}
 use Rattle.frag_sem.specs.PreludeCalls as prelude
 use Rattle.frag_sem.specs.PreludeWords.{as_bits, bit_of, is_set, ones, same_truth, start_word, taken, written}
@@ -28,7 +24,7 @@ use Rattle.register_form.specs.declared.register.Field.{Field}
 use Rattle.register_form.specs.declared.register.FieldArray.{FieldArray}
 use Rattle.register_form.specs.declared.register.Register.{Register}
 use Rattle.register_form.specs.Doings.{CallsFit, FieldIsSound, RegisterIsSound, bit_in, bit_tests, bit_writes, call_named, compared, field_count, field_got, field_put, lowest_bit, readable_named, said_by, value_by, value_or, writable_named}
-use Rattle.register_form.specs.Fields.{field_spot, is_bit, least_width, read_form, reader_of, spot_of, truth_call_of, width_by, write_form, writer_of}
+use Rattle.register_form.specs.Fields.{is_bit, least_width, read_form, reader_of, spot_of, truth_call_of, width_by, write_form, writer_of}
 use Rattle.register_form.specs.Forms.{form_of, masks_of, readers_among, values_among, where_true, writers_among}
 use Rattle.register_form.specs.Laws.{FieldsGive, FieldsPut, StartsAre}
 use Rattle.register_form.proofs.Among.{Among, all_among, all_found, all_joined, among_filter, found_among, none_passes}

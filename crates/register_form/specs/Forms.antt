@@ -2,8 +2,6 @@
 use Rattle.std.specs.Prelude.{ℕ, Bool, true, false, List, map, flat_map, filter, Option, Some, None, is_some}
 use Rattle.std.specs.List.{list_any}
 use Rattle.pac_base.specs.declared.width.Width.{Width}
-use Rattle.frag_tree.specs.declared.krate.Version.{Version}
-use Rattle.frag_tree.specs.declared.krate.Version.TheVariants.{One, Two}
 use Rattle.frag_tree.specs.declared.register.Constant.{Constant}
 use Rattle.frag_tree.specs.declared.register.Reader.{Reader}
 use Rattle.frag_tree.specs.declared.register.RegisterModule.{RegisterModule}

@@ -1,5 +1,5 @@
 -- What the laws of this crate say, each as one statement.
-use Rattle.std.specs.Prelude.{ℕ, ◌≡◌, ◌^◌, ◌<◌, Bool, true, ◌&&◌, List, Option, IfSome, is_some}
+use Rattle.std.specs.Prelude.{ℕ, ◌≡◌, ◌^◌, ◌<◌, true, ◌&&◌, List, Option, IfSome, is_some}
 use Rattle.std.specs.List.{list_all, list_any}
 use Rattle.bits_word.specs.Start.{IsStart}
 use Rattle.pac_base.specs.Widths.{bits_of}

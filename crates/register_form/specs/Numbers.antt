@@ -1,5 +1,5 @@
 -- What the types of a register's parts say: names are identifiers, and numbers are below 2^64. So its module is a valid tree.
-use Rattle.std.specs.Prelude.{ℕ, ◌≡◌, ◌<◌, ◌^◌, true, Option, Some, None, ⊤}
+use Rattle.std.specs.Prelude.{◌≡◌, ◌<◌, ◌^◌, true, Option, Some, None, ⊤}
 use Rattle.std.specs.List.{AllByRecursion}
 use Rattle.frag_tree.specs.declared.krate.Version.{Version}
 use Rattle.frag_tree.specs.declared.register.NumberCall.{NumberCall}

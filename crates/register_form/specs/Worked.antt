@@ -1,6 +1,6 @@
 -- Worked rows: the modules of small registers, by computation.
 use Rattle.std.specs.Prelude.{◌≡◌, ℕ, true, false, Some, None, List, [], ◌∷◌, codes, refl}
-use Rattle.pac_base.specs.declared.width.Width.TheVariants.{W8, W16, W32, W64}
+use Rattle.pac_base.specs.declared.width.Width.TheVariants.{W8, W32, W64}
 use Rattle.frag_tree.specs.declared.register.BitKind.TheVariants as kind
 use Rattle.frag_tree.specs.declared.register.NumberCall.{NumberCall}
 use Rattle.frag_tree.specs.declared.register.ReadForm.TheVariants as read
@@ -16,8 +16,16 @@ use Rattle.register_form.specs.Forms.{form_of, has_arrays}
 -- a bit that can be read and written
 abbrev pub bit_at : List ℕ → List ℕ → ℕ → Field
 bit_at name marker offset = record {
-  name = name; marker = marker; offset = offset; bits = 1; array = None;
-  readable = true; writable = true; kind = kind.Plain; tests = []; sets = [];
+  name = name;
+  marker = marker;
+  offset = offset;
+  bits = 1;
+  array = None;
+  readable = true;
+  writable = true;
+  kind = kind.Plain;
+  tests = [];
+  sets = [];
 }
 
 abbrev pub call : List ℕ → ℕ → NumberCall
@@ -69,9 +77,13 @@ arrays_of_fields = (refl, refl)
 pub write_only :
     form_of (record (register_of (codes "r") (record mode { readable = false } ∷ [])) { readable = false })
     ≡ record {
-      name = codes "r"; word = W32; readable = false;
+      name = codes "r";
+      word = W32;
+      readable = false;
       writable = Some (record { zero_to_modify = record { width = W32; value = 0 }; one_to_modify = record { width = W32; value = 0 } });
-      reset = record { width = W32; value = 0 }; markers = codes "MODE_F" ∷ []; readers = None;
+      reset = record { width = W32; value = 0 };
+      markers = codes "MODE_F" ∷ [];
+      readers = None;
       writers = Some (record { name = codes "mode"; marker = codes "MODE_F"; form = write.Field W8 3 (Fixed 4) } ∷ []);
       values = values.FieldWriting (codes "MODE_F") W8 3 (call (codes "fast") 3 ∷ []) ∷ [];
     }
@@ -81,8 +93,15 @@ write_only = refl
 pub no_direction :
     form_of (record (register_of (codes "r") (record mode { readable = false; writable = false } ∷ [])) { writable = false })
     ≡ record {
-      name = codes "r"; word = W32; readable = true; writable = None; reset = record { width = W32; value = 0 };
-      markers = codes "MODE_F" ∷ []; readers = Some []; writers = None; values = [];
+      name = codes "r";
+      word = W32;
+      readable = true;
+      writable = None;
+      reset = record { width = W32; value = 0 };
+      markers = codes "MODE_F" ∷ [];
+      readers = Some [];
+      writers = None;
+      values = [];
     }
 no_direction = refl
 

@@ -1,5 +1,4 @@
 use Rattle.std.proofs.Common.{◌≡◌, take}
-
 use Rattle.register_form.proofs.field_values.number_calls.Given as goal
 
 abbrev pub invariant-loop-call : goal.invariant-loop-call
