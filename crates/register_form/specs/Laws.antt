@@ -1,17 +1,16 @@
 -- What the laws of this crate say, each as one statement.
-use Rattle.std.specs.Prelude.{ℕ, ◌≡◌, ◌^◌, ◌<◌, true, ◌&&◌, List, Option, IfSome, is_some}
+use Rattle.std.specs.Prelude.{◌+◌, ◌≤◌, ℕ, ◌≡◌, ◌^◌, ◌<◌, true, ◌&&◌, List, Option, IfSome, is_some}
 use Rattle.std.specs.List.{list_all, list_any}
 use Rattle.bits_word.specs.Start.{IsStart}
 use Rattle.pac_base.specs.Widths.{bits_of}
 use Rattle.frag_tree.specs.declared.krate.Version.{Version}
 use Rattle.frag_tree.specs.declared.register.RegisterModule.{RegisterModule}
-use Rattle.frag_sem.specs.CallPlaces.{admits}
 use Rattle.frag_sem.specs.CrateTyping.{constants_of, is_marker, read_fits, register_constants_fit, register_names_differ, register_names_free, spots_have_members, values_fit, write_fits}
 use Rattle.frag_sem.specs.PreludeWords.{same_truth}
 use Rattle.frag_sem.specs.ProxyTypes.{readers_of, same_type, same_width, types_of, values_type, writers_of}
 use Rattle.frag_sem.specs.TextMeaning.{field_given, field_written, started}
 use Rattle.register_form.specs.declared.register.Register.{Register}
-use Rattle.register_form.specs.Doings.{RegisterIsNamed, RegisterIsSound, field_count, field_got, field_put, readable_named, writable_named}
+use Rattle.register_form.specs.Doings.{RegisterIsNamed, RegisterIsSound, field_got, field_put, lowest_bit, readable_named, writable_named}
 use Rattle.register_form.specs.Forms.{form_of}
 
 -- Each method of each field that can be read gives what stands at the place of the field, or of its member: the number, the truth, or whether it is what the call stands for.
@@ -21,13 +20,17 @@ FieldsGive =
     → (name : List ℕ) (index : Option ℕ) (method : List ℕ) (word : ℕ)
     → field_given (form_of register) name index method word ≡ field_got index method word (readable_named name register)
 
+-- the place of the field that can be written, or of its member, lies within the word: so it does where the index fits
+abbrev pub LiesWithin : Register → List ℕ → Option ℕ → Type 0
+LiesWithin register name index = IfSome (writable_named name register) (λ field. lowest_bit field index + field.bits ≤ bits_of register.word)
+
 -- Each method of each field that can be written puts its value at the place of the field, or of its member, and leaves the other bits.
 abbrev pub FieldsPut : Type 0
 FieldsPut =
     (register : Register) → RegisterIsSound register
     → (name : List ℕ) (index : Option ℕ) (method : List ℕ) (value word : ℕ)
     → word < 2 ^ bits_of register.word
-    → IfSome (writable_named name register) (λ field. admits (field_count field) index ≡ true)
+    → LiesWithin register name index
     → field_written (form_of register) name index method value word ≡ field_put index method value word (writable_named name register)
 
 -- The word from which a write starts has each bit as the masks say.
