@@ -1,6 +1,6 @@
 -- What stands at the front of a text is read again: tokens, places and values.
 use Rattle.std.proofs.Common.{ℕ, zero, suc, ◌≡◌, List, [], ◌∷◌, ◌++◌, Bool, true, false, Option, Some, None, refl, sym, ap, ◌∙◌, inl, inr}
-use Rattle.std.specs.Prelude.{◌&&◌, replicate}
+use Rattle.std.specs.Prelude.{◌&&◌, not, replicate}
 use Rattle.std.specs.List.{list_all}
 use Rattle.std.specs.Str.{bytes_eq}
 use Rattle.std.proofs.lemmas.Bool.{cases_Bool, and_parts}
@@ -12,7 +12,7 @@ use Rattle.frag_tree.specs.declared.statement.Atom.{Atom}
 use Rattle.frag_tree.specs.declared.statement.Atom.TheVariants as atom
 use Rattle.frag_tree.specs.declared.statement.Link.{Link}
 use Rattle.frag_tree.specs.declared.statement.Link.TheVariants as link
-use Rattle.frag_tree.specs.declared.statement.PlaceStep.{PlaceStep}
+use Rattle.frag_tree.specs.declared.statement.Call.{Call}
 use Rattle.frag_tree.specs.declared.statement.Source.{Source}
 use Rattle.frag_tree.specs.declared.statement.Source.TheVariants as source
 use Rattle.frag_tree.specs.declared.statement.Value.{Value}
@@ -25,8 +25,8 @@ use Rattle.frag_script.specs.declared.part.Part.TheVariants.{Item, End}
 use Rattle.frag_script.specs.declared.place.Ending.{Ending}
 use Rattle.frag_script.specs.declared.place.Ending.TheVariants.{Plain, Closure}
 use Rattle.frag_script.specs.FixedWords.{text_of}
-use Rattle.frag_script.specs.Reading.{Found, expects, name_at, number_at, empty_at, index_at, call_at, source_at, truth_at, width_at, source_atom_at, atom_at, negations, after_negations, value_at, closed_value_at, argument_at, field_link_at, bits_link_at, link_at, chain_part_at, run_at, gone_on}
-use Rattle.frag_script.specs.Statements.{fixed, each_then, step_then, source_then, atom_then, value_then, argument_then, link_then, valid_step, valid_source, valid_atom, valid_value, valid_argument, valid_link}
+use Rattle.frag_script.specs.Reading.{Found, expects, name_at, number_at, empty_at, index_at, field_at, indexed_field_at, call_at, source_at, truth_at, width_at, source_atom_at, atom_at, negations, after_negations, value_at, closed_value_at, argument_at, field_link_at, filled_link_at, link_at, chain_part_at, run_at, gone_on}
+use Rattle.frag_script.specs.Statements.{fixed, each_then, index_then, step_then, source_then, atom_then, value_then, argument_then, link_then, may_index, valid_field, valid_step, valid_source, valid_atom, valid_value, valid_argument, valid_link}
 use Rattle.frag_script.specs.Tokens.{Token, number, plain}
 use Rattle.frag_script.proofs.Negations.{negation_passed, negations_end}
 use Rattle.frag_script.proofs.Runs.{Shrinks, run-some}
@@ -110,7 +110,7 @@ step_index-again name None rest valid free =
 step_index-again name (Some index) rest valid free =
     rw (expects-again Dot (plain name ∷ fixed Opener ∷ number index ∷ fixed Closer ∷ rest), name-again name (fixed Opener ∷ number index ∷ fixed Closer ∷ rest) valid, expects-again Opener (number index ∷ fixed Closer ∷ rest), not_fixed_number Bar index (fixed Closer ∷ rest), not_fixed_number Closer index (fixed Closer ∷ rest), number-again index (fixed Closer ∷ rest), expects-again Closer rest) refl
 
-pub step-again : (step : PlaceStep) (rest : List Token) → valid_step step ≡ true → expects Semicolon rest ≡ None → call_at (call_then (Item step) rest) ≡ given (Item step, rest)
+pub step-again : (step : Call) (rest : List Token) → valid_step step ≡ true → expects Semicolon rest ≡ None → call_at (call_then (Item step) rest) ≡ given (Item step, rest)
 step-again step rest valid free = step_index-again step.name step.index rest valid free
 
 pub ending-again : (ending : Ending) (rest : List Token) → valid_call (End ending) ≡ true → call_at (call_then (End ending) rest) ≡ given (End ending, rest)
@@ -139,18 +139,34 @@ run-again part_at tokens_of is_valid Free shrinks item_again end_again free (ite
 
 -- ---- values
 
+not_bits : (hit : Bool) → not hit ≡ true → hit ≡ false
+not_bits true h = absurd cc
+not_bits false h = refl
+
+field_index-again : (name : Word) (index : Option ℕ) (rest : List Token) → is_identifier name ≡ true → may_index name index ≡ true → field_at (plain name ∷ index_then index rest) ≡ given (record { name = name; index = index }, rest)
+unfolding field_at indexed_field_at index_at
+field_index-again name None rest valid may =
+    rw (name-again name (fixed Opener ∷ fixed Closer ∷ rest) valid, expects-again Opener (fixed Closer ∷ rest), expects-again Closer rest) refl
+field_index-again name (Some index) rest valid may =
+    rw (name-again name (fixed Opener ∷ number index ∷ fixed Closer ∷ rest) valid, expects-again Opener (number index ∷ fixed Closer ∷ rest), not_fixed_number Closer index (fixed Closer ∷ rest), not_bits (bytes_eq name (text_of Bits)) may, number-again index (fixed Closer ∷ rest), expects-again Closer rest) refl
+
+field-again : (field : Call) (rest : List Token) → valid_field field ≡ true → field_at (plain field.name ∷ index_then field.index rest) ≡ given (field, rest)
+field-again field rest valid =
+    let parts = and_parts (is_identifier field.name) (may_index field.name field.index) valid in
+    field_index-again field.name field.index rest parts.0 parts.1
+
 pub source-again : (read : Source) (rest : List Token) → valid_source read ≡ true → expects Dot rest ≡ None → source_at (source_then read rest) ≡ given (read, rest)
 unfolding source_at
 source-again (source.Bits reader) rest valid free =
-    rw (name-again reader (fixed Dot ∷ fixed Bits ∷ fixed Opener ∷ fixed Closer ∷ rest) valid, expects-again Dot (fixed Bits ∷ fixed Opener ∷ fixed Closer ∷ rest), name-again (text_of Bits) (fixed Opener ∷ fixed Closer ∷ rest) bits_name, empty-again rest, free, same_word (text_of Bits)) refl
+    rw (name-again reader (fixed Dot ∷ fixed Bits ∷ fixed Opener ∷ fixed Closer ∷ rest) valid, expects-again Dot (fixed Bits ∷ fixed Opener ∷ fixed Closer ∷ rest), field_index-again (text_of Bits) None rest bits_name refl, free, same_word (text_of Bits)) refl
 source-again (source.Field reader field method) rest valid free =
-    let parts = and_parts (is_identifier reader) (is_identifier field && is_identifier method) valid in
-    let others = and_parts (is_identifier field) (is_identifier method) parts.1 in
+    let parts = and_parts (is_identifier reader) (valid_field field && is_identifier method) valid in
+    let others = and_parts (valid_field field) (is_identifier method) parts.1 in
+    let tail = fixed Dot ∷ plain method ∷ fixed Opener ∷ fixed Closer ∷ rest in
     rw (
-      name-again reader (fixed Dot ∷ plain field ∷ fixed Opener ∷ fixed Closer ∷ fixed Dot ∷ plain method ∷ fixed Opener ∷ fixed Closer ∷ rest) parts.0,
-      expects-again Dot (plain field ∷ fixed Opener ∷ fixed Closer ∷ fixed Dot ∷ plain method ∷ fixed Opener ∷ fixed Closer ∷ rest),
-      name-again field (fixed Opener ∷ fixed Closer ∷ fixed Dot ∷ plain method ∷ fixed Opener ∷ fixed Closer ∷ rest) others.0,
-      empty-again (fixed Dot ∷ plain method ∷ fixed Opener ∷ fixed Closer ∷ rest),
+      name-again reader (step_then field tail) parts.0,
+      expects-again Dot (plain field.name ∷ index_then field.index tail),
+      field-again field tail others.0,
       expects-again Dot (plain method ∷ fixed Opener ∷ fixed Closer ∷ rest),
       name-again method (fixed Opener ∷ fixed Closer ∷ rest) others.1,
       empty-again rest,
@@ -177,7 +193,7 @@ truth_word_is false = refl
 source-not : (word : Fixed) (read : Source) (rest : List Token) → is_identifier (text_of word) ≡ false → valid_source read ≡ true → expects word (source_then read rest) ≡ None
 source-not word (source.Bits reader) rest keyword valid = not_name word reader (fixed Dot ∷ fixed Bits ∷ fixed Opener ∷ fixed Closer ∷ rest) keyword valid
 source-not word (source.Field reader field method) rest keyword valid =
-    not_name word reader (fixed Dot ∷ plain field ∷ fixed Opener ∷ fixed Closer ∷ fixed Dot ∷ plain method ∷ fixed Opener ∷ fixed Closer ∷ rest) keyword (and_parts (is_identifier reader) (is_identifier field && is_identifier method) valid).0
+    not_name word reader (step_then field (fixed Dot ∷ plain method ∷ fixed Opener ∷ fixed Closer ∷ rest)) keyword (and_parts (is_identifier reader) (valid_field field && is_identifier method) valid).0
 
 source_no_number : (read : Source) (rest : List Token) → number_at (source_then read rest) ≡ None
 unfolding number_at
@@ -250,20 +266,29 @@ argument-again None rest valid = rw (expects-again Opener (fixed Closer ∷ rest
 argument-again (Some value) rest valid =
     rw (expects-again Opener (value_then value (fixed Closer ∷ rest)), value-not value (fixed Closer ∷ rest) valid, closed_value-again value rest valid) refl
 
+field_link-again : (name : Word) (index : Option ℕ) (method : Word) (value : Option Value) (rest : List Token) → is_identifier name ≡ true → may_index name index ≡ true → is_identifier method ≡ true → valid_argument value ≡ true → link_at (step_then (record { name = name; index = index }) (fixed Dot ∷ plain method ∷ argument_then value rest)) ≡ given (link.Field (record { name = name; index = index }) method value, rest)
+unfolding link_at field_link_at filled_link_at indexed_field_at index_at
+field_link-again name None method value rest valid may of_method of_value =
+    let tail = fixed Dot ∷ plain method ∷ argument_then value rest in
+    rw (expects-again Dot (plain name ∷ fixed Opener ∷ fixed Closer ∷ tail), name-again name (fixed Opener ∷ fixed Closer ∷ tail) valid, expects-again Opener (fixed Closer ∷ tail), expects-again Closer tail, expects-again Dot (plain method ∷ argument_then value rest), name-again method (argument_then value rest) of_method, argument-again value rest of_value) refl
+field_link-again name (Some index) method value rest valid may of_method of_value =
+    let tail = fixed Dot ∷ plain method ∷ argument_then value rest in
+    rw (expects-again Dot (plain name ∷ fixed Opener ∷ number index ∷ fixed Closer ∷ tail), name-again name (fixed Opener ∷ number index ∷ fixed Closer ∷ tail) valid, expects-again Opener (number index ∷ fixed Closer ∷ tail), not_fixed_number Closer index (fixed Closer ∷ tail), not_bits (bytes_eq name (text_of Bits)) may, number-again index (fixed Closer ∷ tail), expects-again Closer tail, expects-again Dot (plain method ∷ argument_then value rest), name-again method (argument_then value rest) of_method, argument-again value rest of_value) refl
+
 link-again : (read : Link) (rest : List Token) → valid_link read ≡ true → link_at (link_then read rest) ≡ given (read, rest)
-unfolding link_at field_link_at bits_link_at
+unfolding link_at filled_link_at
 link-again (link.Bits value) rest valid =
     rw (expects-again Dot (fixed Bits ∷ argument_then (Some value) rest), name-again (text_of Bits) (argument_then (Some value) rest) bits_name, expects-again Opener (value_then value (fixed Closer ∷ rest)), value-not value (fixed Closer ∷ rest) valid, same_word (text_of Bits), closed_value-again value rest valid) refl
 link-again (link.Field field method value) rest valid =
-    let parts = and_parts (is_identifier field) (is_identifier method && valid_argument value) valid in
+    let parts = and_parts (valid_field field) (is_identifier method && valid_argument value) valid in
     let others = and_parts (is_identifier method) (valid_argument value) parts.1 in
-    let tail = argument_then value rest in
-    rw (expects-again Dot (plain field ∷ fixed Opener ∷ fixed Closer ∷ fixed Dot ∷ plain method ∷ tail), name-again field (fixed Opener ∷ fixed Closer ∷ fixed Dot ∷ plain method ∷ tail) parts.0, expects-again Opener (fixed Closer ∷ fixed Dot ∷ plain method ∷ tail), expects-again Closer (fixed Dot ∷ plain method ∷ tail), expects-again Dot (plain method ∷ tail), name-again method tail others.0, argument-again value rest others.1) refl
+    let named = and_parts (is_identifier field.name) (may_index field.name field.index) parts.0 in
+    field_link-again field.name field.index method value rest named.0 named.1 others.0 others.1
 
 link_no_closer : (read : Link) (rest : List Token) → expects Closer (link_then read rest) ≡ None
 unfolding text_of
 link_no_closer (link.Bits value) rest = other_fixed Closer Dot (fixed Bits ∷ argument_then (Some value) rest) refl
-link_no_closer (link.Field field method value) rest = other_fixed Closer Dot (plain field ∷ fixed Opener ∷ fixed Closer ∷ fixed Dot ∷ plain method ∷ argument_then value rest) refl
+link_no_closer (link.Field field method value) rest = other_fixed Closer Dot (plain field.name ∷ index_then field.index (fixed Dot ∷ plain method ∷ argument_then value rest)) refl
 
 pub link_part-again : (read : Link) (rest : List Token) → valid_part (Item read) ≡ true → chain_part_at (part_then (Item read) rest) ≡ given (Item read, rest)
 unfolding chain_part_at

@@ -9,7 +9,7 @@ use Rattle.frag_words.specs.Words.{Word}
 use Rattle.frag_tree.specs.Identifiers.{is_identifier, is_keyword}
 use Rattle.frag_tree.specs.declared.statement.Link.{Link}
 use Rattle.frag_tree.specs.declared.statement.Place.{Place}
-use Rattle.frag_tree.specs.declared.statement.PlaceStep.{PlaceStep}
+use Rattle.frag_tree.specs.declared.statement.Call.{Call}
 use Rattle.frag_tree.specs.declared.statement.Statement.{Statement}
 use Rattle.frag_tree.specs.declared.statement.Statement.TheVariants as statement
 use Rattle.frag_script.specs.declared.closure.Parameters.{Parameters}
@@ -56,13 +56,13 @@ closure_body text parameters chain rest e valid =
 
 -- ---- places
 
-call_free : (part : Part PlaceStep Ending) (rest : List Token) → expects Semicolon (call_then part rest) ≡ None
+call_free : (part : Part Call Ending) (rest : List Token) → expects Semicolon (call_then part rest) ≡ None
 unfolding text_of
 call_free (Item step) rest = other_fixed Semicolon Dot _ refl
 call_free (End (Plain call)) rest = other_fixed Semicolon Dot _ refl
 call_free (End (Closure call)) rest = other_fixed Semicolon Dot _ refl
 
-counted : (steps : List PlaceStep) → is_step steps ≡ true → (length steps == 0) ≡ false
+counted : (steps : List Call) → is_step steps ≡ true → (length steps == 0) ≡ false
 counted [] e = absurd cc
 counted (step ∷ steps) e = grind (arith, nat_tests)
 
@@ -81,7 +81,7 @@ place-again place ending rest valid ends =
     ) refl
 
 -- a place is no `let` and no `say (`
-no_opener : (steps : List PlaceStep) (ending : Ending) (rest : List Token) → expects Opener (each_then step_then steps (call_then (End ending) rest)) ≡ None
+no_opener : (steps : List Call) (ending : Ending) (rest : List Token) → expects Opener (each_then step_then steps (call_then (End ending) rest)) ≡ None
 unfolding text_of
 no_opener [] (Plain call) rest = other_fixed Opener Dot _ refl
 no_opener [] (Closure call) rest = other_fixed Opener Dot _ refl

@@ -10,7 +10,7 @@ use Rattle.frag_words.specs.Words.{Word}
 use Rattle.frag_tree.specs.Identifiers.{is_identifier}
 use Rattle.frag_tree.specs.declared.statement.Link.{Link}
 use Rattle.frag_tree.specs.declared.statement.Place.{Place}
-use Rattle.frag_tree.specs.declared.statement.PlaceStep.{PlaceStep}
+use Rattle.frag_tree.specs.declared.statement.Call.{Call}
 use Rattle.frag_tree.specs.declared.statement.Statement.{Statement}
 use Rattle.frag_tree.specs.declared.statement.Statement.TheVariants as statement
 use Rattle.frag_script.specs.declared.closure.Parameters.{Parameters}
@@ -65,7 +65,7 @@ if_none : {A : Type 0} (test : Bool) (found : Option A) (y : A) → (if test the
 if_none true found y e = absurd cc
 if_none false found y e = (refl, e)
 
-some_step : (steps : List PlaceStep) → (length steps == 0) ≡ false → is_step steps ≡ true
+some_step : (steps : List Call) → (length steps == 0) ≡ false → is_step steps ≡ true
 some_step [] e = absurd cc
 some_step (step ∷ steps) e = refl
 

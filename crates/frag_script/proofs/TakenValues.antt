@@ -1,6 +1,8 @@
 -- What reading gives of values and chains stands at the front of the text.
 use Rattle.std.proofs.Common.{ℕ, zero, suc, ◌≡◌, ◌<◌, ◌≤◌, arith, List, ◌∷◌, ◌++◌, length, Bool, true, false, Option, Some, None, refl, sym, ap, ◌∙◌, subst}
-use Rattle.std.specs.Prelude.{replicate}
+use Rattle.std.specs.Prelude.{not, replicate, if◌then◌else◌}
+use Rattle.std.proofs.lemmas.Bool.{and_parts}
+use Rattle.text_scan.specs.Steps.{◌>>=◌}
 use Rattle.std.specs.Str.{bytes_eq}
 use Rattle.std.proofs.lemmas.Slice.Eq.{bytes_eq-Decides}
 use Rattle.text_scan.proofs.Steps.{bind_some}
@@ -8,6 +10,7 @@ use Rattle.frag_words.specs.Words.{Word}
 use Rattle.frag_tree.specs.Identifiers.{is_identifier}
 use Rattle.frag_tree.specs.declared.statement.Atom.{Atom}
 use Rattle.frag_tree.specs.declared.statement.Atom.TheVariants as atom
+use Rattle.frag_tree.specs.declared.statement.Call.{Call}
 use Rattle.frag_tree.specs.declared.statement.Link.{Link}
 use Rattle.frag_tree.specs.declared.statement.Link.TheVariants as link
 use Rattle.frag_tree.specs.declared.statement.Source.{Source}
@@ -20,46 +23,49 @@ use Rattle.frag_script.specs.declared.fixed.Fixed.TheVariants.{Bits, As, Truth, 
 use Rattle.frag_script.specs.declared.part.Part.{Part}
 use Rattle.frag_script.specs.declared.part.Part.TheVariants.{Item, End}
 use Rattle.frag_script.specs.FixedWords.{text_of}
-use Rattle.frag_script.specs.Reading.{Found, expects, name_at, number_at, empty_at, source_of, source_at, tried, truth_at, width_at, cast_of, source_atom_at, truth_or_source, number_or_other, atom_at, negations, after_negations, value_at, closed_value_at, argument_of, argument_at, field_link_at, bits_link_at, link_of, link_at, chain_part_of, chain_part_at}
-use Rattle.frag_script.specs.Statements.{fixed, source_then, atom_then, value_then, argument_then, link_then, valid_source, valid_atom, valid_value, valid_argument, valid_link}
+use Rattle.frag_script.specs.Reading.{Found, expects, name_at, number_at, empty_at, field_at, indexed_field_at, source_of, source_at, tried, truth_at, width_at, cast_of, source_atom_at, truth_or_source, number_or_other, atom_at, negations, after_negations, value_at, closed_value_at, argument_of, argument_at, field_link_at, filled_link_at, link_of, link_at, chain_part_of, chain_part_at}
+use Rattle.frag_script.specs.Statements.{fixed, index_then, step_then, source_then, atom_then, value_then, argument_then, link_then, may_index, valid_field, valid_source, valid_atom, valid_value, valid_argument, valid_link}
 use Rattle.frag_script.specs.Tokens.{Token, plain}
 use Rattle.frag_script.proofs.Negations.{negations-whole}
-use Rattle.frag_script.proofs.Taking.{given, passed_on, both, if_some, Took, expects-takes, name-takes, number-takes, empty-takes}
+use Rattle.frag_script.proofs.Taking.{given, passed_on, both, if_some, Took, expects-takes, name-takes, number-takes, empty-takes, opened, shorter_index, field-takes, indexed_field-takes}
 
--- `READER . FIELD ( )`, and then a rest
-abbrev reading : Word → Word → List Token → List Token
-reading reader field rest = plain reader ∷ fixed Dot ∷ plain field ∷ fixed Opener ∷ fixed Closer ∷ rest
+-- `READER . FIELD ( )` or `READER . FIELD ( NUMBER )`, and then a rest
+abbrev reading : Word → Call → List Token → List Token
+reading reader field rest = plain reader ∷ step_then field rest
 
-source_of-takes : (reader field : Word) (text : List Token) (dot : Option (List Token)) (found : Source × List Token) → is_identifier reader ≡ true → is_identifier field ≡ true → expects Dot text ≡ dot → source_of reader field dot text ≡ given found → Took source_then valid_source (reading reader field text) found
-source_of-takes reader field text (Some behind) found valid_reader valid_field dot e =
+-- a field `bits` has no index
+no_index : (name : Word) (index : Option ℕ) → bytes_eq name (text_of Bits) ≡ true → may_index name index ≡ true → index ≡ None
+no_index name None hit may = refl
+no_index name (Some index) hit may = absurd (let both_ways : false ≡ true = sym (ap not hit) ∙ may in cc)
+
+source_of-takes : (reader : Word) (field : Call) (text : List Token) (dot : Option (List Token)) (found : Source × List Token) → is_identifier reader ≡ true → valid_field field ≡ true → expects Dot text ≡ dot → source_of reader field dot text ≡ given found → Took source_then valid_source (reading reader field text) found
+source_of-takes reader field text (Some behind) found valid_reader of_field dot e =
     let method = bind_some (name_at behind) _ found e in
     let end = bind_some (empty_at method.0.1) _ found method.2 in
     let named = name-takes behind method.0 method.1 in
     let whole : text ≡ fixed Dot ∷ plain method.0.0 ∷ fixed Opener ∷ fixed Closer ∷ end.0 =
     expects-takes Dot text behind dot ∙ (ap (λ (t : List Token). fixed Dot ∷ t) named.0 ∙ ap (λ (t : List Token). fixed Dot ∷ plain method.0.0 ∷ t) (empty-takes method.0.1 end.0 end.1)) in
     passed_on (source.Field reader field method.0.0, end.0) found (Took source_then valid_source (reading reader field text)) end.2
-    (ap (reading reader field) whole, both _ _ valid_reader (both _ _ valid_field named.1))
-source_of-takes reader field text None found valid_reader valid_field dot e =
-    let hit = if_some (bytes_eq field (text_of Bits)) (given (source.Bits reader, text)) found e in
-    let same : field ≡ text_of Bits = (bytes_eq-Decides field (text_of Bits)).0 hit.0 in
+    (ap (reading reader field) whole, both _ _ valid_reader (both _ _ of_field named.1))
+source_of-takes reader field text None found valid_reader of_field dot e =
+    let hit = if_some (bytes_eq field.name (text_of Bits)) (given (source.Bits reader, text)) found e in
+    let same : field.name ≡ text_of Bits = (bytes_eq-Decides field.name (text_of Bits)).0 hit.0 in
+    let none = no_index field.name field.index hit.0 (and_parts (is_identifier field.name) (may_index field.name field.index) of_field).1 in
     passed_on (source.Bits reader, text) found (Took source_then valid_source (reading reader field text)) hit.1
-    (ap (λ (word : Word). reading reader word text) same, valid_reader)
+    (ap (λ (word : Word). plain reader ∷ fixed Dot ∷ plain word ∷ index_then field.index text) same ∙ ap (λ (o : Option ℕ). plain reader ∷ fixed Dot ∷ fixed Bits ∷ index_then o text) none, valid_reader)
 
 pub source-takes : (text : List Token) (found : Source × List Token) → source_at text ≡ given found → Took source_then valid_source text found
 unfolding source_at
 source-takes text found e =
     let reader = bind_some (name_at text) _ found e in
     let dot = bind_some (expects Dot reader.0.1) _ found reader.2 in
-    let field = bind_some (name_at dot.0) _ found dot.2 in
-    let rest = bind_some (empty_at field.0.1) _ found field.2 in
+    let field = bind_some (field_at dot.0) _ found dot.2 in
     let first = name-takes text reader.0 reader.1 in
-    let second = name-takes dot.0 field.0 field.1 in
-    let whole : text ≡ reading reader.0.0 field.0.0 rest.0 =
-    first.0 ∙ (ap (λ (t : List Token). plain reader.0.0 ∷ t) (expects-takes Dot reader.0.1 dot.0 dot.1)
-    ∙ (ap (λ (t : List Token). plain reader.0.0 ∷ fixed Dot ∷ t) second.0
-    ∙ ap (λ (t : List Token). plain reader.0.0 ∷ fixed Dot ∷ plain field.0.0 ∷ t) (empty-takes field.0.1 rest.0 rest.1))) in
+    let second = field-takes dot.0 field.0 field.1 in
+    let whole : text ≡ reading reader.0.0 field.0.0 field.0.1 =
+    first.0 ∙ ap (λ (t : List Token). plain reader.0.0 ∷ t) (expects-takes Dot reader.0.1 dot.0 dot.1 ∙ second.0) in
     let P : List Token → Type 0 = λ t. Took source_then valid_source t found in
-    subst P (sym whole) (source_of-takes reader.0.0 field.0.0 rest.0 (expects Dot rest.0) found first.1 second.1 refl rest.2)
+    subst P (sym whole) (source_of-takes reader.0.0 field.0.0 field.0.1 (expects Dot field.0.1) found first.1 second.1 refl field.2)
 
 -- one of several fixed words
 abbrev Spelled : {A : Type 0} → (A → Fixed) → List Token → A × List Token → Type 0
@@ -157,11 +163,7 @@ argument-takes text found e =
     let P : List Token → Type 0 = λ t. Took argument_then valid_argument t found in
     subst P (sym (expects-takes Opener text opener.0 opener.1)) (argument_of-takes opener.0 (expects Closer opener.0) found refl opener.2)
 
--- `. NAME (`, and then a rest
-abbrev linking : Word → List Token → List Token
-linking name rest = fixed Dot ∷ plain name ∷ fixed Opener ∷ rest
-
-field_link-takes : (field : Word) (text : List Token) (found : Link × List Token) → is_identifier field ≡ true → field_link_at field text ≡ given found → Took link_then valid_link (linking field (fixed Closer ∷ text)) found
+field_link-takes : (field : Call) (text : List Token) (found : Link × List Token) → valid_field field ≡ true → field_link_at field text ≡ given found → Took link_then valid_link (step_then field text) found
 unfolding field_link_at
 field_link-takes field text found valid e =
     let dot = bind_some (expects Dot text) _ found e in
@@ -171,24 +173,28 @@ field_link-takes field text found valid e =
     let taken = argument-takes method.0.1 value.0 value.1 in
     let whole : text ≡ fixed Dot ∷ plain method.0.0 ∷ argument_then value.0.0 value.0.1 =
     expects-takes Dot text dot.0 dot.1 ∙ (ap (λ (t : List Token). fixed Dot ∷ t) named.0 ∙ ap (λ (t : List Token). fixed Dot ∷ plain method.0.0 ∷ t) taken.0) in
-    passed_on (link.Field field method.0.0 value.0.0, value.0.1) found (Took link_then valid_link (linking field (fixed Closer ∷ text))) value.2
-    (ap (λ (t : List Token). linking field (fixed Closer ∷ t)) whole, both _ _ valid (both _ _ named.1 taken.1))
+    passed_on (link.Field field method.0.0 value.0.0, value.0.1) found (Took link_then valid_link (step_then field text)) value.2
+    (ap (step_then field) whole, both _ _ valid (both _ _ named.1 taken.1))
 
-bits_link-takes : (name : Word) (text : List Token) (found : Link × List Token) → bits_link_at name text ≡ given found → Took link_then valid_link (linking name text) found
-unfolding bits_link_at
-bits_link-takes name text found e =
-    let hit = if_some (bytes_eq name (text_of Bits)) _ found e in
-    let same : name ≡ text_of Bits = (bytes_eq-Decides name (text_of Bits)).0 hit.0 in
-    let value = bind_some (closed_value_at text) _ found hit.1 in
+filled_link-takes : (name : Word) (text : List Token) (found : Link × List Token) (hit : Bool) → is_identifier name ≡ true → bytes_eq name (text_of Bits) ≡ hit → (if hit then (closed_value_at text >>= λ value. Some (link.Bits value.0, value.1)) else (indexed_field_at name text >>= λ field. field_link_at field.0 field.1)) ≡ given found → Took link_then valid_link (opened name text) found
+filled_link-takes name text found true valid hit e =
+    let same : name ≡ text_of Bits = (bytes_eq-Decides name (text_of Bits)).0 hit in
+    let value = bind_some (closed_value_at text) _ found e in
     let taken = closed_value-takes text value.0 value.1 in
-    passed_on (link.Bits value.0.0, value.0.1) found (Took link_then valid_link (linking name text)) value.2
-    (ap (λ (word : Word). linking word text) same ∙ ap (linking (text_of Bits)) taken.0, taken.1)
+    passed_on (link.Bits value.0.0, value.0.1) found (Took link_then valid_link (opened name text)) value.2
+    (ap (λ (word : Word). opened word text) same ∙ ap (opened (text_of Bits)) taken.0, taken.1)
+filled_link-takes name text found false valid hit e =
+    let field = bind_some (indexed_field_at name text) _ found e in
+    let taken = indexed_field-takes name text field.0 valid field.1 in
+    let P : List Token → Type 0 = λ t. Took link_then valid_link t found in
+    subst P (sym taken.0) (field_link-takes field.0.0 field.0.1 found taken.1 field.2)
 
-link_of-takes : (name : Word) (inside : List Token) (closer : Option (List Token)) (found : Link × List Token) → is_identifier name ≡ true → expects Closer inside ≡ closer → link_of name closer inside ≡ given found → Took link_then valid_link (linking name inside) found
+link_of-takes : (name : Word) (inside : List Token) (closer : Option (List Token)) (found : Link × List Token) → is_identifier name ≡ true → expects Closer inside ≡ closer → link_of name closer inside ≡ given found → Took link_then valid_link (opened name inside) found
+unfolding filled_link_at
 link_of-takes name inside (Some rest) found valid closer e =
-    let P : List Token → Type 0 = λ t. Took link_then valid_link (linking name t) found in
-    subst P (sym (expects-takes Closer inside rest closer)) (field_link-takes name rest found valid e)
-link_of-takes name inside None found valid closer e = bits_link-takes name inside found e
+    let P : List Token → Type 0 = λ t. Took link_then valid_link (opened name t) found in
+    subst P (sym (expects-takes Closer inside rest closer)) (field_link-takes (record { name = name; index = None }) rest found (both _ _ valid refl) e)
+link_of-takes name inside None found valid closer e = filled_link-takes name inside found (bytes_eq name (text_of Bits)) valid refl e
 
 pub link-takes : (text : List Token) (found : Link × List Token) → link_at text ≡ given found → Took link_then valid_link text found
 unfolding link_at
@@ -197,7 +203,7 @@ link-takes text found e =
     let name = bind_some (name_at dot.0) _ found dot.2 in
     let opener = bind_some (expects Opener name.0.1) _ found name.2 in
     let named = name-takes dot.0 name.0 name.1 in
-    let whole : text ≡ linking name.0.0 opener.0 =
+    let whole : text ≡ opened name.0.0 opener.0 =
     expects-takes Dot text dot.0 dot.1 ∙ (ap (λ (t : List Token). fixed Dot ∷ t) named.0 ∙ ap (λ (t : List Token). fixed Dot ∷ plain name.0.0 ∷ t) (expects-takes Opener name.0.1 opener.0 opener.1)) in
     let P : List Token → Type 0 = λ t. Took link_then valid_link t found in
     subst P (sym whole) (link_of-takes name.0.0 opener.0 (expects Closer opener.0) found named.1 refl opener.2)
@@ -227,7 +233,7 @@ bangs_longer (suc count) token rest = omega (arith, bangs_longer count token res
 
 source_longer : (read : Source) (rest : List Token) → length rest < length (source_then read rest)
 source_longer (source.Bits reader) rest = omega arith
-source_longer (source.Field reader field method) rest = omega arith
+source_longer (source.Field reader field method) rest = omega (arith, shorter_index field.index (fixed Dot ∷ plain method ∷ fixed Opener ∷ fixed Closer ∷ rest))
 
 atom_longer : (read : Atom) (rest : List Token) → length rest < length (atom_then read rest)
 atom_longer (atom.Number value) rest = omega arith
@@ -244,7 +250,7 @@ argument_longer (Some value) rest = omega (arith, value_longer value (fixed Clos
 
 link_longer : (read : Link) (rest : List Token) → length rest < length (link_then read rest)
 link_longer (link.Bits value) rest = omega (arith, argument_longer (Some value) rest)
-link_longer (link.Field field method value) rest = omega (arith, argument_longer value rest)
+link_longer (link.Field field method value) rest = omega (arith, shorter_index field.index (fixed Dot ∷ plain method ∷ argument_then value rest), argument_longer value rest)
 
 part_longer : (part : Part Link (Unit {0})) (rest : List Token) → length rest < length (part_then part rest)
 part_longer (Item read) rest = link_longer read rest

@@ -10,7 +10,7 @@ use Rattle.frag_tree.specs.declared.statement.Atom.TheVariants as atom
 use Rattle.frag_tree.specs.declared.statement.Link.{Link}
 use Rattle.frag_tree.specs.declared.statement.Link.TheVariants as link
 use Rattle.frag_tree.specs.declared.statement.Place.{Place}
-use Rattle.frag_tree.specs.declared.statement.PlaceStep.{PlaceStep}
+use Rattle.frag_tree.specs.declared.statement.Call.{Call}
 use Rattle.frag_tree.specs.declared.statement.Source.{Source}
 use Rattle.frag_tree.specs.declared.statement.Source.TheVariants as source
 use Rattle.frag_tree.specs.declared.statement.Statement.{Statement}
@@ -103,23 +103,23 @@ index_at text = do
   Some (index.0, rest)
 
 -- behind `. ID ( )`: with `;` it ends the place
-abbrev pub closed_call : Word → Option (List Token) → List Token → Found (Part PlaceStep Ending)
+abbrev pub closed_call : Word → Option (List Token) → List Token → Found (Part Call Ending)
 closed_call name (Some rest) text = Some (End (Plain name), rest)
 closed_call name None text = Some (Item (record { name = name; index = None }), text)
 
 -- behind `. ID (`
-abbrev pub opened_call : Word → Option (List Token) → List Token → Found (Part PlaceStep Ending)
+abbrev pub opened_call : Word → Option (List Token) → List Token → Found (Part Call Ending)
 opened_call name (Some rest) text = closed_call name (expects Semicolon rest) rest
 opened_call name None text = do
   index ← index_at text
   Some (Item (record { name = name; index = Some index.0 }), index.1)
 
 -- behind `. ID (`: with `|` it ends the place
-abbrev pub any_call : Word → Option (List Token) → List Token → Found (Part PlaceStep Ending)
+abbrev pub any_call : Word → Option (List Token) → List Token → Found (Part Call Ending)
 any_call name (Some rest) text = Some (End (Closure name), rest)
 any_call name None text = opened_call name (expects Closer text) text
 
-unfoldable pub call_at : List Token → Found (Part PlaceStep Ending)
+unfoldable pub call_at : List Token → Found (Part Call Ending)
 call_at text = do
   rest ← expects Dot text
   name ← name_at rest
@@ -133,22 +133,40 @@ place_at text = do
   run ← run_at call_at slot.1
   if length run.0.0 == 0 then None else Some ((record { slot = slot.0; steps = run.0.0 }, run.0.1), run.1)
 
+-- ---- fields
+
+-- behind `ID (`, which no `)` follows
+unfoldable pub indexed_field_at : Word → List Token → Found Call
+indexed_field_at name inside =
+    if bytes_eq name (text_of Bits) then None else (index_at inside >>= λ index. Some (record { name = name; index = Some index.0 }, index.1))
+
+-- behind `ID (`
+abbrev pub opened_field : Word → Option (List Token) → List Token → Found Call
+opened_field name (Some rest) inside = Some (record { name = name; index = None }, rest)
+opened_field name None inside = indexed_field_at name inside
+
+-- `ID ( )` or `ID ( NUMBER )`
+unfoldable pub field_at : List Token → Found Call
+field_at text = do
+  name ← name_at text
+  inside ← expects Opener name.1
+  opened_field name.0 (expects Closer inside) inside
+
 -- ---- values
 
-abbrev pub source_of : Word → Word → Option (List Token) → List Token → Found Source
+abbrev pub source_of : Word → Call → Option (List Token) → List Token → Found Source
 source_of reader field (Some behind) rest = do
   method ← name_at behind
   end ← empty_at method.1
   Some (source.Field reader field method.0, end)
-source_of reader field None rest = if bytes_eq field (text_of Bits) then Some (source.Bits reader, rest) else None
+source_of reader field None rest = if bytes_eq field.name (text_of Bits) then Some (source.Bits reader, rest) else None
 
 unfoldable pub source_at : List Token → Found Source
 source_at text = do
   reader ← name_at text
   behind ← expects Dot reader.1
-  field ← name_at behind
-  rest ← empty_at field.1
-  source_of reader.0 field.0 (expects Dot rest) rest
+  field ← field_at behind
+  source_of reader.0 field.0 (expects Dot field.1) field.1
 
 abbrev pub tried : {A : Type 0} → A → Option (List Token) → Found A → Found A
 tried value (Some rest) other = Some (value, rest)
@@ -221,8 +239,8 @@ argument_at text = do
   inside ← expects Opener text
   argument_of (expects Closer inside) inside
 
--- behind `. ID ( )`
-unfoldable pub field_link_at : Word → List Token → Found Link
+-- behind `. ID ( )` or `. ID ( NUMBER )`
+unfoldable pub field_link_at : Call → List Token → Found Link
 field_link_at field text = do
   behind ← expects Dot text
   method ← name_at behind
@@ -230,13 +248,13 @@ field_link_at field text = do
   Some (link.Field field method.0 value.0, value.1)
 
 -- behind `. ID (`, which no `)` follows
-unfoldable pub bits_link_at : Word → List Token → Found Link
-bits_link_at name text =
-    if bytes_eq name (text_of Bits) then (closed_value_at text >>= λ value. Some (link.Bits value.0, value.1)) else None
+unfoldable pub filled_link_at : Word → List Token → Found Link
+filled_link_at name text =
+    if bytes_eq name (text_of Bits) then (closed_value_at text >>= λ value. Some (link.Bits value.0, value.1)) else (indexed_field_at name text >>= λ field. field_link_at field.0 field.1)
 
 abbrev pub link_of : Word → Option (List Token) → List Token → Found Link
-link_of name (Some rest) inside = field_link_at name rest
-link_of name None inside = bits_link_at name inside
+link_of name (Some rest) inside = field_link_at (record { name = name; index = None }) rest
+link_of name None inside = filled_link_at name inside
 
 unfoldable pub link_at : List Token → Found Link
 link_at text = do

@@ -1,13 +1,15 @@
 -- The tokens of each production of the grammar of scripts (this project's own rule, after calls of svd2rust's register API): those of a tree, and then a rest.
-use Rattle.std.specs.Prelude.{ℕ, List, [], ◌∷◌, ◌++◌, Bool, true, false, ◌&&◌, Option, Some, None, replicate}
+use Rattle.std.specs.Prelude.{ℕ, List, [], ◌∷◌, ◌++◌, Bool, true, false, ◌&&◌, Option, Some, None, not, replicate}
 use Rattle.std.specs.List.{list_all}
+use Rattle.std.specs.Str.{bytes_eq}
+use Rattle.frag_words.specs.Words.{Word}
 use Rattle.frag_tree.specs.Identifiers.{is_identifier}
 use Rattle.frag_tree.specs.declared.statement.Atom.{Atom}
 use Rattle.frag_tree.specs.declared.statement.Atom.TheVariants as atom
 use Rattle.frag_tree.specs.declared.statement.Link.{Link}
 use Rattle.frag_tree.specs.declared.statement.Link.TheVariants as link
 use Rattle.frag_tree.specs.declared.statement.Place.{Place}
-use Rattle.frag_tree.specs.declared.statement.PlaceStep.{PlaceStep}
+use Rattle.frag_tree.specs.declared.statement.Call.{Call}
 use Rattle.frag_tree.specs.declared.statement.Source.{Source}
 use Rattle.frag_tree.specs.declared.statement.Source.TheVariants as source
 use Rattle.frag_tree.specs.declared.statement.Statement.{Statement}
@@ -34,10 +36,10 @@ index_then None rest = fixed Opener ∷ fixed Closer ∷ rest
 index_then (Some index) rest = fixed Opener ∷ number index ∷ fixed Closer ∷ rest
 
 -- `. ID ( )` or `. ID ( NUMBER )`
-abbrev pub step_then : PlaceStep → List Token → List Token
+abbrev pub step_then : Call → List Token → List Token
 step_then step rest = fixed Dot ∷ plain step.name ∷ index_then step.index rest
 
-abbrev pub steps_then : List PlaceStep → List Token → List Token
+abbrev pub steps_then : List Call → List Token → List Token
 steps_then steps rest = each_then step_then steps rest
 
 -- `ID`, and the steps
@@ -46,11 +48,11 @@ place_then place rest = plain place.slot ∷ steps_then place.steps rest
 
 -- ---- values
 
--- `ID . bits ( )` or `ID . ID ( ) . ID ( )`
+-- `ID . bits ( )` or `ID . CALL . ID ( )`
 abbrev pub source_then : Source → List Token → List Token
 source_then (source.Bits reader) rest = plain reader ∷ fixed Dot ∷ fixed Bits ∷ fixed Opener ∷ fixed Closer ∷ rest
 source_then (source.Field reader field method) rest =
-    plain reader ∷ fixed Dot ∷ plain field ∷ fixed Opener ∷ fixed Closer ∷ fixed Dot ∷ plain method ∷ fixed Opener ∷ fixed Closer ∷ rest
+    plain reader ∷ step_then field (fixed Dot ∷ plain method ∷ fixed Opener ∷ fixed Closer ∷ rest)
 
 -- `NUMBER`, `true`, `false`, `SOURCE` or `SOURCE as TYPE`
 abbrev pub atom_then : Atom → List Token → List Token
@@ -70,11 +72,11 @@ abbrev pub argument_then : Option Value → List Token → List Token
 argument_then None rest = fixed Opener ∷ fixed Closer ∷ rest
 argument_then (Some value) rest = fixed Opener ∷ value_then value (fixed Closer ∷ rest)
 
--- `. bits ( VALUE )`, `. ID ( ) . ID ( )` or `. ID ( ) . ID ( VALUE )`
+-- `. bits ( VALUE )`, `. CALL . ID ( )` or `. CALL . ID ( VALUE )`
 abbrev pub link_then : Link → List Token → List Token
 link_then (link.Bits value) rest = fixed Dot ∷ fixed Bits ∷ argument_then (Some value) rest
 link_then (link.Field field method value) rest =
-    fixed Dot ∷ plain field ∷ fixed Opener ∷ fixed Closer ∷ fixed Dot ∷ plain method ∷ argument_then value rest
+    step_then field (fixed Dot ∷ plain method ∷ argument_then value rest)
 
 abbrev pub links_then : List Link → List Token → List Token
 links_then links rest = each_then link_then links rest
@@ -119,21 +121,29 @@ statement_then (statement.Say value) rest = fixed Say ∷ fixed Opener ∷ value
 abbrev pub statement_tokens : Statement → List Token
 statement_tokens statement = statement_then statement []
 
--- ---- which trees are valid: each name is an identifier, and a place has a step; what code builds is
+-- ---- which trees are valid: each name is an identifier, a place has a step, and no field `bits` has an index; what code builds is
 
-abbrev pub is_step : List PlaceStep → Bool
+abbrev pub is_step : List Call → Bool
 is_step [] = false
 is_step (step ∷ steps) = true
 
-abbrev pub valid_step : PlaceStep → Bool
+abbrev pub valid_step : Call → Bool
 valid_step step = is_identifier step.name
 
 abbrev pub valid_place : Place → Bool
 valid_place place = is_identifier place.slot && (is_step place.steps && list_all valid_step place.steps)
 
+-- `. bits ( NUMBER )` is the link of a whole word and no call of a field
+abbrev pub may_index : Word → Option ℕ → Bool
+may_index name None = true
+may_index name (Some index) = not (bytes_eq name (text_of Bits))
+
+abbrev pub valid_field : Call → Bool
+valid_field call = is_identifier call.name && may_index call.name call.index
+
 abbrev pub valid_source : Source → Bool
 valid_source (source.Bits reader) = is_identifier reader
-valid_source (source.Field reader field method) = is_identifier reader && (is_identifier field && is_identifier method)
+valid_source (source.Field reader field method) = is_identifier reader && (valid_field field && is_identifier method)
 
 abbrev pub valid_atom : Atom → Bool
 valid_atom (atom.Number value) = true
@@ -150,7 +160,7 @@ valid_argument (Some value) = valid_value value
 
 abbrev pub valid_link : Link → Bool
 valid_link (link.Bits value) = valid_value value
-valid_link (link.Field field method value) = is_identifier field && (is_identifier method && valid_argument value)
+valid_link (link.Field field method value) = valid_field field && (is_identifier method && valid_argument value)
 
 abbrev pub valid_chain : List Link → Bool
 valid_chain chain = list_all valid_link chain

@@ -1,13 +1,14 @@
 ghost use Rattle.std.specs.Prelude.{◌≡◌};
-ghost use Rattle.frag_script.specs.Reading.{Gives, argument_at, bits_link_at, chain_at, chain_part_at, field_link_at, link_at, run_at};
+ghost use Rattle.frag_script.specs.Reading.{Gives, argument_at, chain_at, chain_part_at, field_link_at, filled_link_at, link_at, run_at};
 ghost use Rattle.frag_script.specs.Tokens.{tokens_in};
 
 use crate::fault::LineFault;
+use crate::field::indexed_field;
 use crate::fixed::Fixed;
 use crate::part::Part;
 use crate::token::{after, expect, identifier, is};
 use crate::value::closed_value;
-use frag_tree::{Identifier, Link, Value};
+use frag_tree::{Call, Identifier, Link, Value};
 use pac_base::Seq;
 use std::alloc::Global;
 
@@ -24,9 +25,9 @@ fn argument(alloc: Global, text: &[u8]) -> Result<(Option<Value>, &[u8]), LineFa
     Ok((Some(value), rest))
 }
 
-/// What stands behind `.FIELD()`: `.METHOD()`, or `.METHOD(VALUE)`
+/// What stands behind `.FIELD()` or `.FIELD(INDEX)`: `.METHOD()`, or `.METHOD(VALUE)`
 #[tactic(auto, unfolding(crate::specs::Reading::field_link_at))]
-fn field_link(alloc: Global, field: Identifier, text: &[u8]) -> Result<(Link, &[u8]), LineFault>
+fn field_link(alloc: Global, field: Call, text: &[u8]) -> Result<(Link, &[u8]), LineFault>
     ensures { Gives (λ found. (found.0, tokens_in found.1.now)) result (field_link_at field (tokens_in text.now)) }
 {
     let rest = expect(text, Fixed::Dot)?;
@@ -42,16 +43,17 @@ fn field_link(alloc: Global, field: Identifier, text: &[u8]) -> Result<(Link, &[
     ))
 }
 
-/// What stands behind `.NAME(` where that isn't `)`: a value for `bits`.
-#[tactic(auto, unfolding(crate::specs::Reading::bits_link_at))]
-fn bits_link(alloc: Global, name: Identifier, text: &[u8]) -> Result<(Link, &[u8]), LineFault>
-    ensures { Gives (λ found. (found.0, tokens_in found.1.now)) result (bits_link_at name (tokens_in text.now)) }
+/// What stands behind `.NAME(` where that isn't `)`: a value for `bits`, or the index of a field.
+#[tactic(auto, unfolding(crate::specs::Reading::filled_link_at))]
+fn filled_link(alloc: Global, name: Identifier, text: &[u8]) -> Result<(Link, &[u8]), LineFault>
+    ensures { Gives (λ found. (found.0, tokens_in found.1.now)) result (filled_link_at name (tokens_in text.now)) }
 {
-    if !is(&name, Fixed::Bits) {
-        return Err(LineFault::NotAStatement);
+    if is(&name, Fixed::Bits) {
+        let (value, rest) = closed_value(alloc, text)?;
+        return Ok((Link::Bits { value }, rest));
     }
-    let (value, rest) = closed_value(alloc, text)?;
-    Ok((Link::Bits { value }, rest))
+    let (field, rest) = indexed_field(alloc, name, text)?;
+    field_link(alloc, field, rest)
 }
 
 /// One link of a chain.
@@ -63,8 +65,8 @@ fn link(alloc: Global, text: &[u8]) -> Result<(Link, &[u8]), LineFault>
     let (name, rest) = identifier(alloc, rest)?;
     let inside = expect(rest, Fixed::Opener)?;
     match after(inside, Fixed::Closer) {
-        Some(rest) => field_link(alloc, name, rest),
-        None => bits_link(alloc, name, inside),
+        Some(rest) => field_link(alloc, Call { name, index: None }, rest),
+        None => filled_link(alloc, name, inside),
     }
 }
 

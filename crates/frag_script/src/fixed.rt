@@ -1,6 +1,7 @@
 ghost use Rattle.std.specs.Prelude.{◌≡◌};
 ghost use Rattle.frag_script.specs.FixedWords.{text_of};
 
+use frag_tree::{truth_word, width_word};
 use pac_base::Width;
 
 /// A fixed word of scripts.
@@ -71,12 +72,8 @@ impl Fixed {
             Fixed::ReaderName => b"r",
             Fixed::WriterName => b"w",
             Fixed::NoName => b"_",
-            Fixed::Truth(true) => b"true",
-            Fixed::Truth(false) => b"false",
-            Fixed::NumberType(Width::W8) => b"u8",
-            Fixed::NumberType(Width::W16) => b"u16",
-            Fixed::NumberType(Width::W32) => b"u32",
-            Fixed::NumberType(Width::W64) => b"u64",
+            Fixed::Truth(truth) => truth_word(truth),
+            Fixed::NumberType(width) => width_word(width),
             Fixed::Equals => b"=",
             Fixed::Dot => b".",
             Fixed::Comma => b",",

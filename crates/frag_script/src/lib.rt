@@ -4,6 +4,7 @@
 mod chain;
 mod closure;
 mod fault;
+mod field;
 mod fixed;
 mod line;
 mod number;

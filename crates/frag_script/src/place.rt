@@ -1,13 +1,14 @@
 ghost use Rattle.std.specs.Prelude.{◌≡◌};
-ghost use Rattle.frag_script.specs.Reading.{Gives, call_at, index_at, opened_call, place_at, run_at, expects};
+ghost use Rattle.frag_script.specs.Reading.{Gives, call_at, opened_call, place_at, run_at, expects};
 ghost use Rattle.frag_script.specs.declared.fixed.Fixed.TheVariants.{Closer};
 ghost use Rattle.frag_script.specs.Tokens.{tokens_in};
 
 use crate::fault::LineFault;
+use crate::field::index;
 use crate::fixed::Fixed;
 use crate::part::Part;
-use crate::token::{after, expect, identifier, number};
-use frag_tree::{Identifier, Place, PlaceStep};
+use crate::token::{after, expect, identifier};
+use frag_tree::{Call, Identifier, Place};
 use pac_base::Seq;
 use std::alloc::Global;
 
@@ -20,30 +21,18 @@ pub(crate) enum Ending {
     Closure(Identifier),
 }
 
-/// `NUMBER )`
-#[tactic(auto, unfolding(crate::specs::Reading::index_at))]
-fn index(alloc: Global, text: &[u8]) -> Result<(u64, &[u8]), LineFault>
-    ensures { Gives (λ found. (found.0, tokens_in found.1.now)) result (index_at (tokens_in text.now)) }
-{
-    let Some((index, rest)) = number(alloc, text)? else {
-        return Err(LineFault::NotAStatement);
-    };
-    let rest = expect(rest, Fixed::Closer)?;
-    Ok((index, rest))
-}
-
 /// What stands behind `.NAME(` where that isn't `|`.
 fn opened_call(
     alloc: Global,
     name: Identifier,
     text: &[u8],
-) -> Result<(Part<PlaceStep, Ending>, &[u8]), LineFault>
+) -> Result<(Part<Call, Ending>, &[u8]), LineFault>
     ensures { Gives (λ found. (found.0, tokens_in found.1.now)) result (opened_call name (expects Closer (tokens_in text.now)) (tokens_in text.now)) }
 {
     let Some(rest) = after(text, Fixed::Closer) else {
         let (index, rest) = index(alloc, text)?;
         return Ok((
-            Part::Item(PlaceStep {
+            Part::Item(Call {
                 name,
                 index: Some(index),
             }),
@@ -52,13 +41,13 @@ fn opened_call(
     };
     match after(rest, Fixed::Semicolon) {
         Some(end) => Ok((Part::End(Ending::Plain(name)), end)),
-        None => Ok((Part::Item(PlaceStep { name, index: None }), rest)),
+        None => Ok((Part::Item(Call { name, index: None }), rest)),
     }
 }
 
 /// One call behind a slot: an accessor, or the call that ends the place.
 #[tactic(auto, unfolding(crate::specs::Reading::call_at))]
-fn call(alloc: Global, text: &[u8]) -> Result<(Part<PlaceStep, Ending>, &[u8]), LineFault>
+fn call(alloc: Global, text: &[u8]) -> Result<(Part<Call, Ending>, &[u8]), LineFault>
     ensures { Gives (λ found. (found.0, tokens_in found.1.now)) result (call_at (tokens_in text.now)) }
 {
     let rest = expect(text, Fixed::Dot)?;
@@ -71,7 +60,7 @@ fn call(alloc: Global, text: &[u8]) -> Result<(Part<PlaceStep, Ending>, &[u8]), 
 }
 
 /// The calls behind a slot, up to the one that ends the place.
-fn calls(alloc: Global, text: &[u8]) -> Result<(Seq<PlaceStep>, Ending, &[u8]), LineFault>
+fn calls(alloc: Global, text: &[u8]) -> Result<(Seq<Call>, Ending, &[u8]), LineFault>
     ensures { Gives (λ found. ((found.0, found.1), tokens_in found.2.now)) result (run_at call_at (tokens_in text.now)) }
 {
     let mut steps = Seq::new(alloc);

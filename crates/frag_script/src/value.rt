@@ -4,17 +4,18 @@ ghost use Rattle.frag_script.specs.declared.fixed.Fixed.TheVariants.{As, Dot};
 ghost use Rattle.frag_script.specs.Tokens.{tokens_in};
 
 use crate::fault::LineFault;
+use crate::field::field;
 use crate::fixed::Fixed;
 use crate::token::{after, expect, expect_empty, identifier, is, number};
-use frag_tree::{Atom, Identifier, Source, Value};
+use frag_tree::{Atom, Call, Identifier, Source, Value};
 use pac_base::Width;
 use std::alloc::Global;
 
-/// What stands behind `READER.FIELD()`.
+/// What stands behind `READER.FIELD()` or `READER.FIELD(INDEX)`.
 fn source_behind(
     alloc: Global,
     reader: Identifier,
-    field: Identifier,
+    field: Call,
     text: &[u8],
 ) -> Result<(Source, &[u8]), LineFault>
     ensures { Gives (λ found. (found.0, tokens_in found.1.now)) result (source_of reader field (expects Dot (tokens_in text.now)) (tokens_in text.now)) }
@@ -31,22 +32,21 @@ fn source_behind(
             end,
         ));
     }
-    if is(&field, Fixed::Bits) {
+    if is(&field.name, Fixed::Bits) {
         Ok((Source::Bits { reader }, text))
     } else {
         Err(LineFault::NotAStatement)
     }
 }
 
-/// `READER.bits()`, or `READER.FIELD().METHOD()`
+/// `READER.bits()`, `READER.FIELD().METHOD()`, or `READER.FIELD(INDEX).METHOD()`
 #[tactic(auto, unfolding(crate::specs::Reading::source_at))]
 fn source(alloc: Global, text: &[u8]) -> Result<(Source, &[u8]), LineFault>
     ensures { Gives (λ found. (found.0, tokens_in found.1.now)) result (source_at (tokens_in text.now)) }
 {
     let (reader, rest) = identifier(alloc, text)?;
     let rest = expect(rest, Fixed::Dot)?;
-    let (field, rest) = identifier(alloc, rest)?;
-    let rest = expect_empty(rest)?;
+    let (field, rest) = field(alloc, rest)?;
     source_behind(alloc, reader, field, rest)
 }
 

@@ -9,7 +9,7 @@ use Rattle.frag_tree.specs.declared.block.Element.{Element}
 use Rattle.frag_tree.specs.declared.block.Element.TheVariants as element
 use Rattle.frag_tree.specs.declared.krate.Slot.{Slot}
 use Rattle.frag_tree.specs.declared.register.RegisterModule.{RegisterModule}
-use Rattle.frag_tree.specs.declared.statement.PlaceStep.{PlaceStep}
+use Rattle.frag_tree.specs.declared.statement.Call.{Call}
 use Rattle.frag_tree.specs.Trees.{BlockTree, CrateTree, Modules, ModuleTree, ended, register, block, one_register, one_block}
 use Rattle.frag_sem.specs.AddressEnds.{End, access_end, accessors_end, addresses_fit, block_end, end_fits, ends, greater, last_index, module_end, slot_fits}
 use Rattle.frag_sem.specs.CallPlaces.{RegisterAt, access_named, admits, bytes_of, count_of, from_slot, leads, offset_of, register_at, slot_named, through}
@@ -22,7 +22,7 @@ use Rattle.frag_sem.proofs.Lists.{all_at, all_both, both_true, found_at, found_p
 
 -- accessors lead to a register that ends here
 record Attains (unit : ModuleTree) (start end : ℕ) : Type 0 where
-  steps : List PlaceStep
+  steps : List Call
   found : RegisterAt
   leads_there : leads steps unit start ≡ Some found
   ends_there : found.address + bytes_of found.register ≡ start + end

@@ -10,13 +10,14 @@ use Rattle.frag_tree.specs.declared.access.Body.TheVariants as body
 use Rattle.frag_tree.specs.declared.block.Element.{Element}
 use Rattle.frag_tree.specs.declared.block.Element.TheVariants as element
 use Rattle.frag_tree.specs.declared.krate.Slot.{Slot}
-use Rattle.frag_tree.specs.declared.statement.PlaceStep.{PlaceStep}
-use Rattle.frag_tree.specs.Trees.{BlockTree, CrateTree, Modules, ModuleTree, ended, register, block, one_register, one_block}
+use Rattle.frag_tree.specs.declared.register.RegisterModule.{RegisterModule}
+use Rattle.frag_tree.specs.declared.statement.Call.{Call}
+use Rattle.frag_tree.specs.Trees.{BlockHead, BlockTree, CrateTree, Modules, ModuleTree, ended, register, block, one_register, one_block}
 use Rattle.frag_sem.specs.AddressEnds.{End, access_end, accessors_end, addresses_fit, block_end, end_fits, ends, greater, last_index, module_end, slot_fits}
 use Rattle.frag_sem.specs.CallPlaces.{RegisterAt, admits, body_offset, bytes_of, count_of, from_slot, leads, offset_of, register_at, slot_named}
 use Rattle.frag_sem.specs.CrateTyping.{AddressRange}
 use Rattle.frag_sem.specs.Layout.{element_size}
-use Rattle.frag_sem.specs.Modules.{beside, modules_of, same_element, top_block}
+use Rattle.frag_sem.specs.Modules.{beside, each_module, module_of, modules_of, same_element, top_block}
 use Rattle.frag_sem.proofs.Leading.{Entered, leads_keeps}
 use Rattle.frag_sem.proofs.Lists.{both_true, found_at, found_has}
 
@@ -25,6 +26,20 @@ use Rattle.frag_sem.proofs.Lists.{both_true, found_at, found_has}
 pub pushed : {A B : Type 0} (f : A → B) (b : Bool) (x : A) (o : Option A) (p : Option B) → p ≡ option_map f o → (if b then Some (f x) else p) ≡ option_map f (if b then Some x else o)
 pushed f true x o p h = refl
 pushed f false x o p h = h
+
+-- what a module comes to, of what its register modules come to and its block modules
+abbrev pub comes_to : {A : Type 0} → (RegisterModule → A) → (BlockHead → List (Element × A) → A) → ModuleTree → A
+comes_to of_register of_block (one_register unit) = of_register unit
+comes_to of_register of_block (one_block unit) = of_block unit.head (each_module of_register of_block unit.inside)
+
+-- beside an element stands what its module comes to
+pub each_beside : {A : Type 0} (of_register : RegisterModule → A) (of_block : BlockHead → List (Element × A) → A) (wanted : Element) (modules : Modules) → beside wanted (each_module of_register of_block modules) ≡ option_map (comes_to of_register of_block) (module_of wanted modules)
+unfolding each_module modules_of
+each_beside of_register of_block wanted ended = refl
+each_beside of_register of_block wanted (register unit others) =
+    pushed (comes_to of_register of_block) (same_element wanted (element.Register unit.name)) (one_register unit) (module_of wanted others) (beside wanted (each_module of_register of_block others)) (each_beside of_register of_block wanted others)
+each_beside of_register of_block wanted (block head inside others) =
+    pushed (comes_to of_register of_block) (same_element wanted (element.Block head.name)) (one_block (record { head = head; inside = inside })) (module_of wanted others) (beside wanted (each_module of_register of_block others)) (each_beside of_register of_block wanted others)
 
 -- beside an element stands the greatest end in its module
 pub ends_beside : (wanted : Element) (modules : Modules) → beside wanted (ends modules) ≡ option_map module_end (beside wanted (modules_of modules))
@@ -101,7 +116,7 @@ earlier_by bound start last offset None below h = tt
 earlier_by bound start last offset (Some n) below h = omega arith
 
 -- so behind an accessor, in the module of its element
-entered_by : (bound start : ℕ) (unit : BlockTree) (step : PlaceStep) (access : Access) (inner : ModuleTree) → Entered unit step access inner → EndsBy bound start (block_end unit) → EndsBy bound (start + offset_of unit access step.index) (module_end inner)
+entered_by : (bound start : ℕ) (unit : BlockTree) (step : Call) (access : Access) (inner : ModuleTree) → Entered unit step access inner → EndsBy bound start (block_end unit) → EndsBy bound (start + offset_of unit access step.index) (module_end inner)
 entered_by bound start unit step access inner entered h =
     let last = offset_of unit access (last_index (count_of unit access)) in
     let end_is : beside access.element (ends unit.inside) ≡ Some (module_end inner) = ends_beside access.element unit.inside ∙ ap (option_map module_end) entered.module_is in
@@ -114,7 +129,7 @@ entered_by bound start unit step access inner entered h =
     there
 
 -- where the greatest end in a module is at or below a bound, so is the end of each register to which accessors lead
-pub chain_by : (bound : ℕ) (steps : List PlaceStep) (unit : ModuleTree) (start : ℕ) → EndsBy bound start (module_end unit) → ReachesBy bound (leads steps unit start)
+pub chain_by : (bound : ℕ) (steps : List Call) (unit : ModuleTree) (start : ℕ) → EndsBy bound start (module_end unit) → ReachesBy bound (leads steps unit start)
 chain_by bound steps unit start h =
     leads_keeps (λ inner from. EndsBy bound from (module_end inner)) (λ found. found.address + bytes_of found.register ≤ bound)
     (λ register_of from end. end)
@@ -126,11 +141,11 @@ end_by : (start : ℕ) (end : End) → end_fits start end ≡ true → EndsBy (2
 end_by start None h = tt
 end_by start (Some n) h = leb-true (start + n) (2 ^ 64) h
 
-slot_by : (krate : CrateTree) (steps : List PlaceStep) (slot : Slot) (o : Option BlockTree) → end_fits slot.address (option_and_then block_end o) ≡ true → ReachesBy (2 ^ 64) (option_and_then (λ unit. leads steps (one_block unit) slot.address) o)
+slot_by : (krate : CrateTree) (steps : List Call) (slot : Slot) (o : Option BlockTree) → end_fits slot.address (option_and_then block_end o) ≡ true → ReachesBy (2 ^ 64) (option_and_then (λ unit. leads steps (one_block unit) slot.address) o)
 slot_by krate steps slot None h = tt
 slot_by krate steps slot (Some unit) h = chain_by (2 ^ 64) steps (one_block unit) slot.address (end_by slot.address (block_end unit) h)
 
-place_by : (krate : CrateTree) (steps : List PlaceStep) (o : Option Slot) → ((slot : Slot) → o ≡ Some slot → slot_fits krate slot ≡ true) → ReachesBy (2 ^ 64) (option_and_then (from_slot krate steps) o)
+place_by : (krate : CrateTree) (steps : List Call) (o : Option Slot) → ((slot : Slot) → o ≡ Some slot → slot_fits krate slot ≡ true) → ReachesBy (2 ^ 64) (option_and_then (from_slot krate steps) o)
 place_by krate steps None h = tt
 place_by krate steps (Some slot) h = slot_by krate steps slot (top_block slot.block krate.blocks) (h slot refl)
 

@@ -7,20 +7,20 @@ use Rattle.frag_tree.specs.declared.access.Access.{Access}
 use Rattle.frag_tree.specs.declared.block.Element.{Element}
 use Rattle.frag_tree.specs.declared.block.Element.TheVariants as element
 use Rattle.frag_tree.specs.declared.register.RegisterModule.{RegisterModule}
-use Rattle.frag_tree.specs.declared.statement.PlaceStep.{PlaceStep}
+use Rattle.frag_tree.specs.declared.statement.Call.{Call}
 use Rattle.frag_tree.specs.Trees.{BlockTree, Modules, ModuleTree, before, ended, register, block, one_register, one_block}
 use Rattle.frag_sem.specs.CallPlaces.{RegisterAt, access_named, admits, count_of, leads, offset_of, through}
 use Rattle.frag_sem.specs.Modules.{blocks_in, module_of, modules_of, registers_in, same_element}
 use Rattle.frag_sem.proofs.Lists.{all_both, found_at}
 
 -- a step leads through this accessor of a block to this module
-pub record Entered (unit : BlockTree) (step : PlaceStep) (access : Access) (inner : ModuleTree) : Type 0 where
+pub record Entered (unit : BlockTree) (step : Call) (access : Access) (inner : ModuleTree) : Type 0 where
   pub named : access_named step.name unit.head.accessors ≡ Some access
   pub admitted : admits (count_of unit access) step.index ≡ true
   pub module_is : module_of access.element unit.inside ≡ Some inner
 
 -- through an accessor, from where P holds, to what has Q
-through_keeps : (P : ModuleTree → ℕ → Type 0) (Q : RegisterAt → Type 0) (unit : BlockTree) (start : ℕ) (step : PlaceStep) (access : Access) (others : ModuleTree → ℕ → Option RegisterAt) → ((inner : ModuleTree) (from : ℕ) → P inner from → IfSome (others inner from) Q) → ((inner : ModuleTree) → Entered unit step access inner → P inner (start + offset_of unit access step.index)) → access_named step.name unit.head.accessors ≡ Some access → IfSome (through unit start step access others) Q
+through_keeps : (P : ModuleTree → ℕ → Type 0) (Q : RegisterAt → Type 0) (unit : BlockTree) (start : ℕ) (step : Call) (access : Access) (others : ModuleTree → ℕ → Option RegisterAt) → ((inner : ModuleTree) (from : ℕ) → P inner from → IfSome (others inner from) Q) → ((inner : ModuleTree) → Entered unit step access inner → P inner (start + offset_of unit access step.index)) → access_named step.name unit.head.accessors ≡ Some access → IfSome (through unit start step access others) Q
 through_keeps P Q unit start step access others more enters own = by (admits (count_of unit access) step.index) refl
   where
     inside : (o : Option ModuleTree) → module_of access.element unit.inside ≡ o → admits (count_of unit access) step.index ≡ true → IfSome (option_and_then (λ inner. others inner (start + offset_of unit access step.index)) o) Q
@@ -31,15 +31,15 @@ through_keeps P Q unit start step access others more enters own = by (admits (co
     by false is = tt
     by true is = inside (module_of access.element unit.inside) refl is
 
-named_keeps : (P : ModuleTree → ℕ → Type 0) (Q : RegisterAt → Type 0) (unit : BlockTree) (start : ℕ) (step : PlaceStep) (others : ModuleTree → ℕ → Option RegisterAt) → ((inner : ModuleTree) (from : ℕ) → P inner from → IfSome (others inner from) Q) → ((access : Access) (inner : ModuleTree) → Entered unit step access inner → P inner (start + offset_of unit access step.index)) → (o : Option Access) → access_named step.name unit.head.accessors ≡ o → IfSome (option_and_then (λ access. through unit start step access others) o) Q
+named_keeps : (P : ModuleTree → ℕ → Type 0) (Q : RegisterAt → Type 0) (unit : BlockTree) (start : ℕ) (step : Call) (others : ModuleTree → ℕ → Option RegisterAt) → ((inner : ModuleTree) (from : ℕ) → P inner from → IfSome (others inner from) Q) → ((access : Access) (inner : ModuleTree) → Entered unit step access inner → P inner (start + offset_of unit access step.index)) → (o : Option Access) → access_named step.name unit.head.accessors ≡ o → IfSome (option_and_then (λ access. through unit start step access others) o) Q
 named_keeps P Q unit start step others more enters None is = tt
 named_keeps P Q unit start step others more enters (Some access) is = through_keeps P Q unit start step access others more (enters access) is
 
 -- What holds of a module that starts here, and is kept by each step, holds of the register to which accessors lead.
 pub leads_keeps : (P : ModuleTree → ℕ → Type 0) (Q : RegisterAt → Type 0)
     → ((unit : RegisterModule) (start : ℕ) → P (one_register unit) start → Q (record { address = start; register = unit }))
-    → ((unit : BlockTree) (start : ℕ) (step : PlaceStep) (access : Access) (inner : ModuleTree) → Entered unit step access inner → P (one_block unit) start → P inner (start + offset_of unit access step.index))
-    → (steps : List PlaceStep) (unit : ModuleTree) (start : ℕ) → P unit start → IfSome (leads steps unit start) Q
+    → ((unit : BlockTree) (start : ℕ) (step : Call) (access : Access) (inner : ModuleTree) → Entered unit step access inner → P (one_block unit) start → P inner (start + offset_of unit access step.index))
+    → (steps : List Call) (unit : ModuleTree) (start : ℕ) → P unit start → IfSome (leads steps unit start) Q
 unfolding leads
 leads_keeps P Q stands enters [] (one_register unit) start h = stands unit start h
 leads_keeps P Q stands enters [] (one_block unit) start h = tt

@@ -4,6 +4,17 @@ pub mod Lists
 pub mod Leading
 pub mod Chains
 pub mod Attained
+pub mod CutEnds
 pub mod Rules
+pub mod KeptWords
 pub mod Events
+pub mod Typings
+pub mod Picking
 pub mod Walking
+pub mod Reaching
+pub mod Likeness
+pub mod PlacesFound
+pub mod MeansOne
+pub mod FittingPlaces
+pub mod FittingValues
+pub mod Fitting

@@ -1,6 +1,6 @@
 -- Lists, what is found in them, and their names.
-use Rattle.std.proofs.Common.{ℕ, ◌≡◌, Bool, true, false, cond, not, ◌&&◌, ◌⊎◌, inl, inr, List, [], ◌∷◌, ◌++◌, map, find, flat_map, Option, Some, bytes_eq, refl, sym, ap, subst, ◌∙◌}
-use Rattle.std.specs.List.{list_all, list_any}
+use Rattle.std.proofs.Common.{ℕ, ◌≡◌, Bool, true, false, cond, not, ◌&&◌, ◌⊎◌, inl, inr, List, [], ◌∷◌, ◌++◌, map, find, flat_map, option_map, Option, Some, bytes_eq, refl, sym, ap, subst, ◌∙◌}
+use Rattle.std.specs.List.{list_all, list_any, AllByRecursion}
 use Rattle.std.proofs.lemmas.Bool.{or_parts, and_from, not-true, false≢true}
 use Rattle.std.proofs.lemmas.Option.{none-some, same_Some}
 use Rattle.std.proofs.lemmas.Slice.Eq.{bytes_eq-Decides}
@@ -26,12 +26,45 @@ found_has test has (x ∷ xs) y found all =
     which (inl same) first others = subst (λ z. has z ≡ true) same first
     which (inr later) first others = others later
 
+-- so also where the property is a type
+pub found_all : {X : Type 0} (test : X → Bool) (Has : X → Type 0) (xs : List X) (y : X) → find test xs ≡ Some y → AllByRecursion Has xs → Has y
+found_all test Has [] y found all = absurd (none-some y found)
+found_all test Has (x ∷ xs) y found all = which (found_at (test x) x (find test xs) y found) (λ later. found_all test Has xs y later all.1)
+  where
+    which : (x ≡ y) ⊎ (find test xs ≡ Some y) → (find test xs ≡ Some y → Has y) → Has y
+    which (inl same) others = subst Has same all.0
+    which (inr later) others = others later
+
+-- what is found among what a list is mapped to, is what is found there, mapped
+pub found_map : {X Y : Type 0} (test : Y → Bool) (f : X → Y) (xs : List X) → find test (map f xs) ≡ option_map f (find (λ x. test (f x)) xs)
+found_map test f [] = refl
+found_map {X} {Y} test f (x ∷ xs) = by (test (f x)) (found_map test f xs)
+  where
+    by : (b : Bool) → find test (map f xs) ≡ option_map f (find (λ y. test (f y)) xs) → cond b (Some (f x)) (find test (map f xs)) ≡ option_map f (cond b (Some x) (find (λ y. test (f y)) xs))
+    by true more = refl
+    by false more = more
+
 pub all_both : {X : Type 0} (has : X → Bool) (xs ys : List X) → list_all has (xs ++ ys) ≡ true → (list_all has xs ≡ true) × (list_all has ys ≡ true)
 all_both has [] ys all = (refl, all)
 all_both has (x ∷ xs) ys all =
     let parts = both_true (has x) (list_all has (xs ++ ys)) all in
     let more = all_both has xs ys parts.1 in
     (and_from (has x) (list_all has xs) parts.0 more.0, more.1)
+
+-- what all have of two properties, they have of both
+pub all_and : {X : Type 0} (p q : X → Bool) (xs : List X) → list_all p xs ≡ true → list_all q xs ≡ true → list_all (λ x. p x && q x) xs ≡ true
+all_and p q [] one other = refl
+all_and p q (x ∷ xs) one other =
+    let first = both_true (p x) (list_all p xs) one in
+    let second = both_true (q x) (list_all q xs) other in
+    and_from (p x && q x) (list_all (λ y. p y && q y) xs) (and_from (p x) (q x) first.0 second.0) (all_and p q xs first.1 second.1)
+
+-- what follows of each, all have
+pub all_weaker : {X : Type 0} (p q : X → Bool) → ((x : X) → p x ≡ true → q x ≡ true) → (xs : List X) → list_all p xs ≡ true → list_all q xs ≡ true
+all_weaker p q follows [] all = refl
+all_weaker p q follows (x ∷ xs) all =
+    let parts = both_true (p x) (list_all p xs) all in
+    and_from (q x) (list_all q xs) (follows x parts.0) (all_weaker p q follows xs parts.1)
 
 -- what all that is made of a list has, all has that is made of what is found there
 pub found_parts : {X Y : Type 0} (test : X → Bool) (parts : X → List Y) (has : Y → Bool) (xs : List X) (y : X) → find test xs ≡ Some y → list_all has (flat_map parts xs) ≡ true → list_all has (parts y) ≡ true

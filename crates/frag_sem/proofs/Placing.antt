@@ -7,8 +7,8 @@ use Rattle.std.proofs.lemmas.Bool.{or_parts}
 use Rattle.std.proofs.lemmas.List.Sums.{fold-append}
 use Rattle.std.proofs.lemmas.Slice.Eq.{bytes_eq-Decides}
 use Rattle.frag_tree.specs.declared.block.StructField.{StructField}
-use Rattle.frag_sem.specs.Laws.{PlaceBehindGap, PlaceBehindEnd, FieldsApart, FieldsAligned, gap_of}
-use Rattle.frag_sem.specs.Layout.{Extents, end_behind, end_of, place_behind, place_named, placed, placed_behind, type_extent}
+use Rattle.frag_sem.specs.Laws.{EndsGrow, PlaceBehindGap, PlaceBehindEnd, FieldsApart, FieldsAligned, SizeReaches, gap_of}
+use Rattle.frag_sem.specs.Layout.{Extents, align_of, end_behind, end_of, place_behind, place_named, placed, placed_behind, type_extent}
 
 -- ---- multiples
 
@@ -74,6 +74,22 @@ behind_gap known front others gap bytes field apart fits =
     let end = end_gap known front gap bytes in
     let found = behind_end known (front ++ gap_of gap bytes ∷ []) others field apart (ap (λ (n : ℕ). n % (type_extent known field.holds).align) end ∙ fits) in
     ap (λ fields. place_named known fields field.name) (sym (append_assoc front (gap_of gap bytes ∷ []) (field ∷ others))) ∙ (found ∙ ap Some end)
+
+-- what has come so far, or further
+ends_further : (known : Extents) (end : ℕ) (fields : List StructField) → end ≤ fold (end_behind known) end fields
+ends_further known end [] = omega arith
+ends_further known end (field ∷ fields) =
+    let here : end ≤ place_behind known end field = next_reaches end (type_extent known field.holds).align in
+    let further : end_behind known end field ≤ fold (end_behind known) (end_behind known end field) fields = ends_further known (end_behind known end field) fields in
+    omega arith
+
+pub ends_grow : EndsGrow
+ends_grow known front others =
+    let further : end_of known front ≤ fold (end_behind known) (end_of known front) others = ends_further known (end_of known front) others in
+    omega (arith, fold-append (end_behind known) 0 front others)
+
+pub size_reaches : SizeReaches
+size_reaches head known = next_reaches (end_of known head.fields) (align_of known head.fields)
 
 -- ---- one field among the others
 

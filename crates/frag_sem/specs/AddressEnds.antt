@@ -1,5 +1,5 @@
 -- The address range decided block by block: chains of accessors are as many as there are ways through the blocks, but of the registers at their ends only the one that ends last counts, and that is found once for each block.
-use Rattle.std.specs.Prelude.{ℕ, ◌+◌, ◌-◌, ◌^◌, max, Bool, true, ◌&&◌, nat_le, List, [], ◌∷◌, ◌++◌, Option, Some, None, option_map, option_and_then, if◌then◌else◌}
+use Rattle.std.specs.Prelude.{ℕ, ◌+◌, ◌-◌, ◌^◌, max, min, Bool, true, ◌&&◌, nat_le, List, [], ◌∷◌, ◌++◌, Option, Some, None, option_map, option_and_then, if◌then◌else◌}
 use Rattle.std.specs.List.{list_all}
 use Rattle.frag_tree.specs.declared.access.Access.{Access}
 use Rattle.frag_tree.specs.declared.block.Element.{Element}
@@ -62,6 +62,31 @@ slot_fits krate slot = end_fits slot.address (option_and_then block_end (top_blo
 -- all sizes and all ends are at or below 2^64
 unfoldable pub addresses_fit : CrateTree → Bool
 addresses_fit krate = list_all (λ unit. nat_le (extent_of unit).size (2 ^ 64)) (all_blocks krate) && list_all (slot_fits krate) krate.slots
+
+-- ---- ends that are counted no further than need be
+
+-- an end behind 2^64 counts as the next number
+abbrev pub cut : ℕ → ℕ
+cut end = min end (2 ^ 64 + 1)
+
+-- the greatest end in each module of a parent, where each block counts by its cut end
+unfoldable pub cut_ends : Modules → List (Element × End)
+cut_ends ended = []
+cut_ends (register unit others) = (element.Register unit.name, Some (bytes_of unit)) ∷ cut_ends others
+cut_ends (block head inside others) =
+    (element.Block head.name, option_map cut (accessors_end (record { head = head; inside = inside }) (cut_ends inside) head.accessors)) ∷ cut_ends others
+
+abbrev pub cut_block_end : BlockTree → End
+cut_block_end unit = option_map cut (accessors_end unit (cut_ends unit.inside) unit.head.accessors)
+
+abbrev pub slot_fits_cut : CrateTree → Slot → Bool
+slot_fits_cut krate slot = end_fits slot.address (option_and_then cut_block_end (top_block slot.block krate.blocks))
+
+-- all sizes and all cut ends are at or below 2^64
+unfoldable pub cut_addresses_fit : CrateTree → Bool
+cut_addresses_fit krate = list_all (λ unit. nat_le (extent_of unit).size (2 ^ 64)) (all_blocks krate) && list_all (slot_fits_cut krate) krate.slots
+
+-- ---- all rules
 
 -- the tests of all rules in their order, each with the kind where it fails
 unfoldable pub all_tests : CrateTree → List (Bool × TypingKind)

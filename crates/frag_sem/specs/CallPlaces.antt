@@ -11,7 +11,7 @@ use Rattle.frag_tree.specs.declared.block.StructField.{StructField}
 use Rattle.frag_tree.specs.declared.krate.Slot.{Slot}
 use Rattle.frag_tree.specs.declared.register.RegisterModule.{RegisterModule}
 use Rattle.frag_tree.specs.declared.statement.Place.{Place}
-use Rattle.frag_tree.specs.declared.statement.PlaceStep.{PlaceStep}
+use Rattle.frag_tree.specs.declared.statement.Call.{Call}
 use Rattle.frag_tree.specs.Trees.{BlockTree, CrateTree, ModuleTree, one_register, one_block}
 use Rattle.frag_sem.specs.Layout.{element_size, place_of}
 use Rattle.frag_sem.specs.Modules.{module_of, top_block}
@@ -72,24 +72,24 @@ ended_at (one_register unit) start = Some (record { address = start; register = 
 ended_at (one_block unit) start = None
 
 -- through an accessor of a block that starts here, to the element's module where it starts
-abbrev pub through : BlockTree → ℕ → PlaceStep → Access → (ModuleTree → ℕ → Option RegisterAt) → Option RegisterAt
+abbrev pub through : BlockTree → ℕ → Call → Access → (ModuleTree → ℕ → Option RegisterAt) → Option RegisterAt
 through unit start step access others =
     if admits (count_of unit access) step.index
     then option_and_then (λ inner. others inner (start + offset_of unit access step.index)) (module_of access.element unit.inside)
     else None
 
 -- through the accessor of a module that a step names
-abbrev pub into : ModuleTree → ℕ → PlaceStep → (ModuleTree → ℕ → Option RegisterAt) → Option RegisterAt
+abbrev pub into : ModuleTree → ℕ → Call → (ModuleTree → ℕ → Option RegisterAt) → Option RegisterAt
 into (one_register unit) start step others = None
 into (one_block unit) start step others = option_and_then (λ access. through unit start step access others) (access_named step.name unit.head.accessors)
 
 -- the register to which accessors lead from a module that starts here; none where they lead to no register
-unfoldable pub leads : List PlaceStep → ModuleTree → ℕ → Option RegisterAt
+unfoldable pub leads : List Call → ModuleTree → ℕ → Option RegisterAt
 leads [] unit start = ended_at unit start
 leads (step ∷ steps) unit start = into unit start step (leads steps)
 
 -- from a slot
-abbrev pub from_slot : CrateTree → List PlaceStep → Slot → Option RegisterAt
+abbrev pub from_slot : CrateTree → List Call → Slot → Option RegisterAt
 from_slot krate steps slot = option_and_then (λ unit. leads steps (one_block unit) slot.address) (top_block slot.block krate.blocks)
 
 -- the slot that has the name

@@ -10,6 +10,7 @@ use Rattle.frag_tree.specs.declared.block.Element.{Element}
 use Rattle.frag_tree.specs.declared.block.FieldType.{FieldType}
 use Rattle.frag_tree.specs.declared.block.FieldType.TheVariants as holds
 use Rattle.frag_tree.specs.declared.block.StructField.{StructField}
+use Rattle.frag_tree.specs.declared.krate.Version.{Version}
 use Rattle.frag_tree.specs.declared.register.Constant.{Constant}
 use Rattle.frag_tree.specs.declared.register.ReadForm.{ReadForm}
 use Rattle.frag_tree.specs.declared.register.ReadForm.TheVariants as read
@@ -27,6 +28,7 @@ use Rattle.frag_sem.specs.Modules.{all_blocks, all_registers, are_distinct, are_
 use Rattle.frag_sem.specs.PreludeCalls.{is_prelude_name}
 use Rattle.frag_sem.specs.PreludeWords.{same_truth}
 use Rattle.frag_sem.specs.ProxyTypes.{ProxyType, readers_of, same_type, same_width, types_of, value_names, values_type, writers_of}
+use Rattle.frag_sem.specs.Spots.{last_spot, read_spot, spot_has_members, write_spot}
 
 -- ---- distinct names
 
@@ -124,7 +126,7 @@ body_types fields access (body.AtIndex offset stride count) = access.is_indexed
 unfoldable pub bodies_fit : CrateTree → Bool
 bodies_fit krate = each_access (λ unit access. body_types unit.head.fields access access.body) krate
 
--- ---- counts_are_some
+-- ---- counts
 
 abbrev pub type_has_members : FieldType → Bool
 type_has_members (holds.One element) = true
@@ -137,10 +139,14 @@ body_has_members (body.Member field) = true
 body_has_members (body.At offset) = true
 body_has_members (body.AtIndex offset stride count) = nat_le 1 count
 
--- The count of an array and of `at_index` is at least 1; a gap may be any number.
+abbrev pub spots_have_members : RegisterModule → Bool
+spots_have_members unit = list_all (λ reader. spot_has_members (read_spot reader.form)) (readers_of unit) && list_all (λ writer. spot_has_members (write_spot writer.form)) (writers_of unit)
+
+-- The count of an array, of `at_index` and of `at_bit` is at least 1; a gap may be any number.
 unfoldable pub counts_are_some : CrateTree → Bool
 counts_are_some krate =
     list_all (λ unit. list_all (λ field. type_has_members field.holds) unit.head.fields && list_all (λ access. body_has_members access.body) unit.head.accessors) (all_blocks krate)
+    && list_all spots_have_members (all_registers krate)
 
 -- ---- constants
 
@@ -160,9 +166,12 @@ has_bits bits number = nat_lt number (2 ^ bits)
 unfoldable pub constants_have_type : CrateTree → Bool
 constants_have_type krate = list_all (λ unit. list_all (λ constant. same_width constant.width unit.word) (constants_of unit)) (all_registers krate)
 
+abbrev pub register_constants_fit : RegisterModule → Bool
+register_constants_fit unit = list_all (λ constant. has_bits (bits_of unit.word) constant.value) (constants_of unit)
+
 -- Each constant's literal fits `Ux`.
 unfoldable pub constants_fit : CrateTree → Bool
-constants_fit krate = list_all (λ unit. list_all (λ constant. has_bits (bits_of unit.word) constant.value) (constants_of unit)) (all_registers krate)
+constants_fit krate = list_all register_constants_fit (all_registers krate)
 
 -- ---- readers and writers
 
@@ -174,10 +183,10 @@ unfoldable pub reader_markers : CrateTree → Bool
 reader_markers krate = list_all (λ unit. list_all (λ reader. is_marker unit reader.marker) (readers_of unit)) (all_registers krate)
 
 abbrev pub read_fits : ℕ → ReadForm → Bool
-read_fits bits (read.Bit shift mask) = nat_lt shift bits && has_bits bits mask
-read_fits bits (read.Field width shift mask) = nat_lt shift bits && has_bits bits mask
+read_fits bits (read.Bit spot mask) = nat_lt (last_spot spot) bits && has_bits bits mask
+read_fits bits (read.Field width spot mask) = nat_lt (last_spot spot) bits && has_bits bits mask
 
--- A reader's shift is below the bits of `Ux`, and its mask fits `Ux`.
+-- A reader's shift, that of the last member, is below the bits of `Ux`, and its mask fits `Ux`.
 unfoldable pub reader_places : CrateTree → Bool
 reader_places krate = list_all (λ unit. list_all (λ reader. read_fits (bits_of unit.word) reader.form) (readers_of unit)) (all_registers krate)
 
@@ -186,10 +195,10 @@ unfoldable pub writer_markers : CrateTree → Bool
 writer_markers krate = list_all (λ unit. list_all (λ writer. is_marker unit writer.marker) (writers_of unit)) (all_registers krate)
 
 abbrev pub write_fits : ℕ → WriteForm → Bool
-write_fits bits (write.Bit kind offset) = nat_le (offset + 1) bits
-write_fits bits (write.Field width wide offset) = nat_le (offset + wide) bits && (nat_le 1 wide && nat_le wide (bits_of width))
+write_fits bits (write.Bit kind spot) = nat_le (last_spot spot + 1) bits
+write_fits bits (write.Field width wide spot) = nat_le (last_spot spot + wide) bits && (nat_le 1 wide && nat_le wide (bits_of width))
 
--- A writer's offset plus its width, which is 1 for one bit, is at most the bits of `Ux`; a `FieldWriter`'s width is 1 to the bits of its value type.
+-- A writer's offset, that of the last member, plus its width, which is 1 for one bit, is at most the bits of `Ux`; a `FieldWriter`'s width is 1 to the bits of its value type.
 unfoldable pub writer_places : CrateTree → Bool
 writer_places krate = list_all (λ unit. list_all (λ writer. write_fits (bits_of unit.word) writer.form) (writers_of unit)) (all_registers krate)
 
@@ -209,20 +218,20 @@ values_fit (values.FieldWriting marker width bits calls) = list_all (λ call. ha
 unfoldable pub value_literals : CrateTree → Bool
 value_literals krate = list_all (λ unit. list_all values_fit unit.values) (all_registers krate)
 
--- ---- prelude names and directions_agree
+-- ---- prelude names and directions
 
-abbrev pub is_free : List ℕ → Bool
-is_free name = not (is_prelude_name name)
+abbrev pub is_free : Version → List ℕ → Bool
+is_free version name = not (is_prelude_name version name)
 
-abbrev pub register_names_free : RegisterModule → Bool
-register_names_free unit =
-    list_all (λ reader. is_free reader.name) (readers_of unit)
-    && (list_all (λ writer. is_free writer.name) (writers_of unit)
-    && list_all (λ block. list_all is_free (value_names block)) unit.values)
+abbrev pub register_names_free : Version → RegisterModule → Bool
+register_names_free version unit =
+    list_all (λ reader. is_free version reader.name) (readers_of unit)
+    && (list_all (λ writer. is_free version writer.name) (writers_of unit)
+    && list_all (λ block. list_all (is_free version) (value_names block)) unit.values)
 
--- No accessor, reader, writer or call of a value has a prelude name.
+-- No accessor, reader, writer or call of a value has a name of the prelude of the text's version.
 unfoldable pub names_are_free : CrateTree → Bool
-names_are_free krate = each_access (λ unit access. is_free access.name) krate && list_all register_names_free (all_registers krate)
+names_are_free krate = each_access (λ unit access. is_free krate.version access.name) krate && list_all (register_names_free krate.version) (all_registers krate)
 
 -- `impl R` stands exactly with `Readable`, `impl W` exactly with `Writable`.
 unfoldable pub directions_agree : CrateTree → Bool

@@ -1,6 +1,7 @@
 pub mod Modules
 pub mod Layout
 pub mod PreludeCalls
+pub mod Spots
 pub mod ProxyTypes
 pub mod CallPlaces
 pub mod CrateTyping
@@ -10,7 +11,13 @@ pub mod TextSurface
 pub mod ScriptTyping
 pub mod PlaceTyping
 pub mod PreludeWords
+pub mod Meaning
+pub mod Presets
+pub mod Likeness
 pub mod TextMeaning
-pub mod TextPresets
-pub mod Worked
+pub mod PlaceIs
+pub mod Means
+pub mod WorkedCrates
+pub mod WorkedEvents
+pub mod WorkedTyping
 pub mod Laws

@@ -1,13 +1,16 @@
--- The typing of a place by walking the modules of a crate: what the surface says of it, without the list of all chains of accessors, which are exponentially many in the depth of the modules.
-use Rattle.std.specs.Prelude.{ℕ, Bool, List, [], ◌∷◌, Option, None, Ok, Err, ok_or, option_map, option_and_then, if◌then◌else◌}
+-- The typing of places and scripts by walking the modules of a crate: what the surface says of them, without the list of all chains of accessors, which are exponentially many in the depth of the modules.
+use Rattle.std.specs.Prelude.{ℕ, Bool, List, [], ◌∷◌, map, Option, None, Ok, Err, ok_or, option_map, option_and_then, if◌then◌else◌}
+use Rattle.std.specs.List.{list_any}
+use Rattle.std.specs.Str.{bytes_eq}
 use Rattle.frag_tree.specs.declared.access.Access.{Access}
 use Rattle.frag_tree.specs.declared.register.RegisterModule.{RegisterModule}
+use Rattle.frag_tree.specs.declared.script.Script.{Script}
 use Rattle.frag_tree.specs.declared.statement.Place.{Place}
-use Rattle.frag_tree.specs.declared.statement.PlaceStep.{PlaceStep}
+use Rattle.frag_tree.specs.declared.statement.Call.{Call}
 use Rattle.frag_tree.specs.Trees.{BlockTree, CrateTree, ModuleTree, one_register, one_block}
 use Rattle.frag_sem.specs.CallPlaces.{access_named, count_of, slot_named}
 use Rattle.frag_sem.specs.Modules.{module_of, top_block}
-use Rattle.frag_sem.specs.ScriptTyping.{Typed, ◌>>=◌, index_types, no_such_call, no_such_name}
+use Rattle.frag_sem.specs.ScriptTyping.{LineFault, Scope, Typed, ◌>>=◌, index_types, lines_fault, no_such_call, no_such_name}
 use Rattle.frag_sem.specs.Surfaces.{RegisterCalls}
 use Rattle.frag_sem.specs.TextSurface.{register_calls}
 
@@ -24,7 +27,7 @@ inner_named (one_register unit) name = None
 inner_named (one_block unit) name = option_and_then (inner_of unit) (access_named name unit.head.accessors)
 
 -- the module at the end of accessors
-unfoldable pub steps_lead : ModuleTree → List PlaceStep → Typed ModuleTree
+unfoldable pub steps_lead : ModuleTree → List Call → Typed ModuleTree
 steps_lead unit [] = Ok unit
 steps_lead unit (step ∷ steps) = do
   inner ← ok_or (inner_named unit step.name) no_such_call
@@ -46,3 +49,14 @@ call_leads has_call krate place = do
   unit ← ok_or (slot_module krate place.slot) no_such_name
   inner ← steps_lead unit place.steps
   register_with has_call inner
+
+-- what a script may call, found by walking
+abbrev pub module_scope : CrateTree → Scope
+module_scope krate = record {
+  is_slot = λ name. list_any (bytes_eq name) (map (λ slot. slot.name) krate.slots);
+  call = λ has_call place. call_leads has_call krate place >>= λ unit. Ok (register_calls unit);
+}
+
+-- the first fault of a script against a crate, found by walking
+unfoldable pub module_fault : CrateTree → Script → Option LineFault
+module_fault krate script = lines_fault (module_scope krate) script.lines []

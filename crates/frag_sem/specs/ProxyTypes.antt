@@ -38,15 +38,15 @@ same_type (field_writer one width bits) (field_writer other also as_many) = byte
 same_type _ _ = false
 
 abbrev pub read_type : List ℕ → ReadForm → ProxyType
-read_type marker (read.Bit shift mask) = bit_reader marker
-read_type marker (read.Field width shift mask) = field_reader marker width
+read_type marker (read.Bit spot mask) = bit_reader marker
+read_type marker (read.Field width spot mask) = field_reader marker width
 
 abbrev pub reader_type : Reader → ProxyType
 reader_type reader = read_type reader.marker reader.form
 
 abbrev pub write_type : List ℕ → WriteForm → ProxyType
-write_type marker (write.Bit kind offset) = bit_writer kind marker
-write_type marker (write.Field width bits offset) = field_writer marker width bits
+write_type marker (write.Bit kind spot) = bit_writer kind marker
+write_type marker (write.Field width bits spot) = field_writer marker width bits
 
 abbrev pub writer_type : Writer → ProxyType
 writer_type writer = write_type writer.marker writer.form

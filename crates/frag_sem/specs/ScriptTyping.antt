@@ -12,7 +12,7 @@ use Rattle.frag_tree.specs.declared.statement.Atom.TheVariants as atom
 use Rattle.frag_tree.specs.declared.statement.Link.{Link}
 use Rattle.frag_tree.specs.declared.statement.Link.TheVariants as link
 use Rattle.frag_tree.specs.declared.statement.Place.{Place}
-use Rattle.frag_tree.specs.declared.statement.PlaceStep.{PlaceStep}
+use Rattle.frag_tree.specs.declared.statement.Call.{Call}
 use Rattle.frag_tree.specs.declared.statement.Source.{Source}
 use Rattle.frag_tree.specs.declared.statement.Source.TheVariants as source
 use Rattle.frag_tree.specs.declared.statement.Statement.{Statement}
@@ -78,7 +78,7 @@ without_step name register (step ∷ others) = if bytes_eq name step.name then S
 abbrev pub behind : List ℕ → List Below → List Below
 behind name entries = filter_map (λ below. without_step name below.register below.steps) entries
 
--- An accessor takes an index just where it has a count; and the index, which stands behind its name, is below that.
+-- An accessor or a field takes an index just where it has a count; and the index, which stands behind its name, is below that.
 abbrev pub index_types : Option ℕ → Option ℕ → Typed (Unit {0})
 index_types None None = Ok tt
 index_types None (Some index) = Err wrong_type
@@ -86,7 +86,7 @@ index_types (Some count) None = Err wrong_type
 index_types (Some count) (Some index) = holds_or index_range (nat_lt index count)
 
 -- what stands at the end of accessors
-unfoldable pub steps_type : List Below → List PlaceStep → Typed (List Below)
+unfoldable pub steps_type : List Below → List Call → Typed (List Below)
 steps_type entries [] = Ok entries
 steps_type entries (step ∷ steps) = do
   found ← ok_or (step_named step.name entries) no_such_call
@@ -143,9 +143,11 @@ literal_types anything value = literal_fits W64 value
 literal_types (just (number width)) value = literal_fits width value
 literal_types (just truth) value = Err wrong_type
 
-abbrev pub read_call : RegisterCalls → List ℕ → List ℕ → Typed ReadCall
+-- a method of a field that can be read
+abbrev pub read_call : RegisterCalls → Call → List ℕ → Typed ReadCall
 read_call register field method = do
-  found ← ok_or (find (λ reader. bytes_eq field reader.name) register.readers) no_such_call
+  found ← ok_or (find (λ reader. bytes_eq field.name reader.name) register.readers) no_such_call
+  _ ← index_types found.count field.index
   ok_or (find (λ call. bytes_eq method call.name) found.calls) no_such_call
 
 -- the type of what a bound name gives
@@ -188,9 +190,11 @@ argument_types names None (Some value) = Err wrong_type
 argument_types names (Some type) None = Err wrong_type
 argument_types names (Some type) (Some value) = value_types names (just type) value
 
-abbrev pub write_call : RegisterCalls → List ℕ → List ℕ → Typed WriteCall
+-- a method of a field that can be written
+abbrev pub write_call : RegisterCalls → Call → List ℕ → Typed WriteCall
 write_call register field method = do
-  found ← ok_or (find (λ writer. bytes_eq field writer.name) register.writers) no_such_call
+  found ← ok_or (find (λ writer. bytes_eq field.name writer.name) register.writers) no_such_call
+  _ ← index_types found.count field.index
   ok_or (find (λ call. bytes_eq method call.name) found.calls) no_such_call
 
 -- the whole word is a number of the register's width
@@ -206,6 +210,16 @@ chain_types names register (first ∷ others) = do
   _ ← link_types names register first
   chain_types names register others
 
+-- ---- scopes
+
+-- What a script may call: which names are slots; and of which register a call is that stands at the end of a place, or the first fault of the place.
+pub record Scope : Type 0 where
+  pub is_slot : List ℕ → Bool
+  pub call : (RegisterCalls → Bool) → Place → Typed RegisterCalls
+
+abbrev pub surface_scope : Surface → Scope
+surface_scope surface = record { is_slot = is_slot surface; call = λ has_call place. call_types has_call surface place }
+
 -- ---- statements
 
 -- the reader of `modify`, and the writer
@@ -216,8 +230,8 @@ abbrev pub writer_name : List ℕ
 writer_name = codes "w"
 
 -- a name that a `let` may bind: none that is bound, no slot, neither `r` nor `w`
-abbrev pub is_new : Surface → Names → List ℕ → Bool
-is_new surface names name = not (list_any (λ bound. bytes_eq name bound.0) names || (is_slot surface name || (bytes_eq name reader_name || bytes_eq name writer_name)))
+abbrev pub is_new : Scope → Names → List ℕ → Bool
+is_new scope names name = not (list_any (λ bound. bytes_eq name bound.0) names || (scope.is_slot name || (bytes_eq name reader_name || bytes_eq name writer_name)))
 
 -- the names within the chain of a `modify`, which may name what it read
 abbrev pub names_within : Names → RegisterCalls → Bool → Names
@@ -234,27 +248,27 @@ abbrev pub can_modify : RegisterCalls → Bool
 can_modify register = register.readable && register.writable
 
 -- a statement, and the names that are bound behind it
-unfoldable pub statement_types : Surface → Names → Statement → Typed Names
-statement_types surface names (statement.Let name place) = do
-  _ ← holds_or rebound (is_new surface names name)
-  register ← call_types can_read surface place
+unfoldable pub statement_types : Scope → Names → Statement → Typed Names
+statement_types scope names (statement.Let name place) = do
+  _ ← holds_or rebound (is_new scope names name)
+  register ← scope.call can_read place
   Ok ((name, register) ∷ names)
-statement_types surface names (statement.Write place chain) = do
-  register ← call_types can_write surface place
+statement_types scope names (statement.Write place chain) = do
+  register ← scope.call can_write place
   _ ← chain_types names register chain
   Ok names
-statement_types surface names (statement.WriteWithZero place chain) = do
-  register ← call_types can_write surface place
+statement_types scope names (statement.WriteWithZero place chain) = do
+  register ← scope.call can_write place
   _ ← chain_types names register chain
   Ok names
-statement_types surface names (statement.Modify place names_reader chain) = do
-  register ← call_types can_modify surface place
+statement_types scope names (statement.Modify place names_reader chain) = do
+  register ← scope.call can_modify place
   _ ← chain_types (names_within names register names_reader) register chain
   Ok names
-statement_types surface names (statement.Reset place) = do
-  _ ← call_types can_write surface place
+statement_types scope names (statement.Reset place) = do
+  _ ← scope.call can_write place
   Ok names
-statement_types surface names (statement.Say value) = do
+statement_types scope names (statement.Say value) = do
   _ ← value_types names anything value
   Ok names
 
@@ -270,10 +284,10 @@ abbrev pub line_fault : ℕ → Typed Names → (Names → Option LineFault) →
 line_fault line (Ok names) others = others names
 line_fault line (Err kind) others = Some (record { line = line; kind = kind })
 
-unfoldable pub lines_fault : Surface → List ScriptLine → Names → Option LineFault
-lines_fault surface [] names = None
-lines_fault surface (first ∷ others) names = line_fault first.line (statement_types surface names first.statement) (lines_fault surface others)
+unfoldable pub lines_fault : Scope → List ScriptLine → Names → Option LineFault
+lines_fault scope [] names = None
+lines_fault scope (first ∷ others) names = line_fault first.line (statement_types scope names first.statement) (lines_fault scope others)
 
 -- the first fault of a script against a surface; none where it fits
 unfoldable pub script_fault : Surface → Script → Option LineFault
-script_fault surface script = lines_fault surface script.lines []
+script_fault surface script = lines_fault (surface_scope surface) script.lines []

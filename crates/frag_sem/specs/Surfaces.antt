@@ -17,14 +17,16 @@ pub record WriteCall : Type 0 where
   pub name : List ℕ
   pub takes : Option ValueType
 
--- a field that can be read, by its call name
+-- a field that can be read, by its call name, and how many members it has; none where it takes no index
 pub record ReadField : Type 0 where
   pub name : List ℕ
+  pub count : Option ℕ
   pub calls : List ReadCall
 
--- a field that can be written, by its call name
+-- a field that can be written, by its call name, and how many members it has; none where it takes no index
 pub record WriteField : Type 0 where
   pub name : List ℕ
+  pub count : Option ℕ
   pub calls : List WriteCall
 
 -- What a register offers: its width, the two directions, and its readable and its writable fields in order, each with its calls in order.

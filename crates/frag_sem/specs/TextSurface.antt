@@ -15,6 +15,7 @@ use Rattle.frag_sem.specs.CallPlaces.{body_count}
 use Rattle.frag_sem.specs.Modules.{beside, each_module, top_block}
 use Rattle.frag_sem.specs.PreludeCalls.{bit_tests, bit_writes}
 use Rattle.frag_sem.specs.ProxyTypes.{numbers_on, reader_type, readers_of, truths_on, writer_type, writers_of}
+use Rattle.frag_sem.specs.Spots.{read_spot, spot_count, write_spot}
 use Rattle.frag_sem.specs.Surfaces.{Below, Entry, ReadCall, ReadField, RegisterCalls, Step, Surface, number, truth, WriteCall, WriteField}
 
 -- ---- fields
@@ -29,23 +30,23 @@ plain_call name = record { name = name; takes = None }
 
 -- the calls of a reader: those of the prelude, and then those of the values on its type
 abbrev pub read_calls : RegisterModule → Reader → ReadForm → List ReadCall
-read_calls unit reader (read.Bit shift mask) =
+read_calls unit reader (read.Bit spot mask) =
     record { name = codes "bit"; gives = truth } ∷ map (λ call. test_call call.name) (bit_tests ++ truths_on (reader_type reader) unit.values)
-read_calls unit reader (read.Field width shift mask) =
+read_calls unit reader (read.Field width spot mask) =
     record { name = codes "bits"; gives = number width } ∷ map (λ call. test_call call.name) (numbers_on (reader_type reader) unit.values)
 
 abbrev pub read_field : RegisterModule → Reader → ReadField
-read_field unit reader = record { name = reader.name; calls = read_calls unit reader reader.form }
+read_field unit reader = record { name = reader.name; count = spot_count (read_spot reader.form); calls = read_calls unit reader reader.form }
 
 -- the calls of a writer: those of the prelude, and then those of the values on its type
 abbrev pub write_calls : RegisterModule → Writer → WriteForm → List WriteCall
-write_calls unit writer (write.Bit kind offset) =
+write_calls unit writer (write.Bit kind spot) =
     record { name = codes "bit"; takes = Some truth } ∷ map (λ call. plain_call call.name) (bit_writes kind ++ truths_on (writer_type writer) unit.values)
-write_calls unit writer (write.Field width bits offset) =
+write_calls unit writer (write.Field width bits spot) =
     record { name = codes "bits"; takes = Some (number width) } ∷ map (λ call. plain_call call.name) (numbers_on (writer_type writer) unit.values)
 
 abbrev pub write_field : RegisterModule → Writer → WriteField
-write_field unit writer = record { name = writer.name; calls = write_calls unit writer writer.form }
+write_field unit writer = record { name = writer.name; count = spot_count (write_spot writer.form); calls = write_calls unit writer writer.form }
 
 -- what a register module offers
 unfoldable pub register_calls : RegisterModule → RegisterCalls

@@ -5,4 +5,6 @@
 
 mod laws;
 
-pub use laws::{layout_law, meaning_law, reader_law, surface_law, typing_law, writer_law};
+pub use laws::{
+    layout_law, likeness_law, meaning_law, reader_law, surface_law, typing_law, writer_law,
+};

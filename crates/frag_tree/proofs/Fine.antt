@@ -14,6 +14,9 @@ use Rattle.frag_words.specs.Words.{Word, words_in}
 use Rattle.frag_words.specs.Joined.{is_run, is_joined, Runs, IsFine, AreFine}
 use Rattle.frag_words.proofs.Joints.{words_of_lines, fine-append, fine-map, fine-flat_map}
 use Rattle.frag_words.proofs.Readings.{both, both_left, both_right}
+use Rattle.frag_tree.specs.declared.krate.Version.{Version}
+use Rattle.frag_tree.specs.Phrases.{text_of, says, receiver}
+use Rattle.frag_tree.specs.declared.phrase.Phrase.TheVariants as phrase
 use Rattle.frag_tree.specs.declared.access.Access.{Access}
 use Rattle.frag_tree.specs.declared.access.Body.{Body}
 use Rattle.frag_tree.specs.declared.access.Body.TheVariants as body
@@ -31,6 +34,9 @@ use Rattle.frag_tree.specs.declared.register.ReadForm.{ReadForm}
 use Rattle.frag_tree.specs.declared.register.ReadForm.TheVariants as read
 use Rattle.frag_tree.specs.declared.register.Reader.{Reader}
 use Rattle.frag_tree.specs.declared.register.RegisterModule.{RegisterModule}
+use Rattle.frag_tree.specs.declared.register.Spot.{Spot}
+use Rattle.frag_tree.specs.declared.register.Spot.TheVariants.{Fixed, Indexed}
+use Rattle.frag_tree.specs.declared.krate.Version.TheVariants.{One, Two}
 use Rattle.frag_tree.specs.declared.register.TruthCall.{TruthCall}
 use Rattle.frag_tree.specs.declared.register.Values.{Values}
 use Rattle.frag_tree.specs.declared.register.Values.TheVariants as values
@@ -38,13 +44,13 @@ use Rattle.frag_tree.specs.declared.register.Writable.{Writable}
 use Rattle.frag_tree.specs.declared.register.WriteForm.{WriteForm}
 use Rattle.frag_tree.specs.declared.register.WriteForm.TheVariants as write
 use Rattle.frag_tree.specs.declared.register.Writer.{Writer}
-use Rattle.frag_tree.specs.Blocks.{element_pieces, type_pieces, array_pieces, field_line, index_text, body_pieces, access_line, struct_lines, accessor_lines, opening_lines, modules_lines}
-use Rattle.frag_tree.specs.Crates.{slot_line, slots_lines, top_lines, crate_lines, printed, crate_words}
+use Rattle.frag_tree.specs.Blocks.{element_pieces, type_pieces, array_pieces, field_line, body_pieces, access_line, struct_lines, accessor_lines, opening_lines, modules_lines}
+use Rattle.frag_tree.specs.Crates.{slot_line, slots_lines, top_lines, version_lines, crate_lines, printed, crate_words}
 use Rattle.frag_tree.specs.Identifiers.{is_identifier, is_keyword, is_start}
 use Rattle.frag_tree.specs.Numerals.{hexadecimal_word, decimal_word, width_word, truth_word, decimal}
-use Rattle.frag_tree.specs.Registers.{kind_word, writable_lines, reset_line, marker_line, reader_line, writer_line, readable_lines, readers_lines, writers_lines, truth_call_line, number_call_line, opening_pieces, values_lines, part_lines, register_lines}
-use Rattle.frag_tree.specs.Trees.{BlockHead, BlockTree, CrateTree, Modules, ended, register, block}
-use Rattle.frag_tree.specs.Validity.{is_number, valid_slot, valid_element, valid_type, valid_field, valid_body, valid_access, valid_constant, valid_writable, valid_read, valid_reader, valid_write, valid_writer, valid_truth, valid_number, valid_values, valid_option, valid_register, valid_head, valid_modules, valid_block, valid_crate}
+use Rattle.frag_tree.specs.Registers.{kind_word, writable_lines, reset_line, marker_line, reader_line, writer_line, spot_pieces, readable_lines, readers_lines, writers_lines, truth_call_line, number_call_line, opening_pieces, values_lines, part_lines, register_lines}
+use Rattle.frag_tree.specs.Trees.{BlockHead, BlockTree, CrateTree, Modules, ended, register, block, spot_read, spot_written}
+use Rattle.frag_tree.specs.Validity.{is_number, valid_slot, valid_element, valid_type, valid_field, valid_body, valid_access, valid_constant, valid_writable, stands_in, valid_spot, valid_read, valid_reader, valid_write, valid_writer, valid_truth, valid_number, valid_values, valid_option, valid_register, valid_head, valid_modules, valid_block, valid_crate}
 
 -- ---- words that are runs
 
@@ -128,18 +134,18 @@ element_runs (element.Block unit) valid = (identifier_run unit valid, tt)
 
 type_runs : (holds : FieldType) → valid_type holds ≡ true → Runs (type_pieces holds)
 type_runs (holds.One element) valid = element_runs element valid
-type_runs (holds.Array element count) valid = runs-append (element_pieces element) (text (codes "; ") ∷ decimal count ∷ text (codes "]") ∷ []) (element_runs element (both_left (valid_element element) (is_number count) valid)) (decimal_run count (both_right (valid_element element) (is_number count) valid), tt)
+type_runs (holds.Array element count) valid = runs-append (element_pieces element) (says phrase.Semicolon ∷ decimal count ∷ says phrase.ClosesArray ∷ []) (element_runs element (both_left (valid_element element) (is_number count) valid)) (decimal_run count (both_right (valid_element element) (is_number count) valid), tt)
 type_runs (holds.Gap bytes) valid = (decimal_run bytes valid, tt)
 
-array_joined : (name : Word) (element : Element) (count : ℕ) → is_joined (word name ∷ text (codes ": ") ∷ (array_pieces element count ++ text (codes ",") ∷ [])) ≡ true
+array_joined : (name : Word) (element : Element) (count : ℕ) → is_joined (word name ∷ says phrase.Colon ∷ (array_pieces element count ++ says phrase.Comma ∷ [])) ≡ true
 array_joined name (element.Register unit) count = refl
 array_joined name (element.Block unit) count = refl
 
-one_joined : (name : Word) (element : Element) → is_joined (word name ∷ text (codes ": ") ∷ (element_pieces element ++ text (codes ",") ∷ [])) ≡ true
+one_joined : (name : Word) (element : Element) → is_joined (word name ∷ says phrase.Colon ∷ (element_pieces element ++ says phrase.Comma ∷ [])) ≡ true
 one_joined name (element.Register unit) = refl
 one_joined name (element.Block unit) = refl
 
-type_joined : (name : Word) (holds : FieldType) → is_joined (word name ∷ text (codes ": ") ∷ (type_pieces holds ++ text (codes ",") ∷ [])) ≡ true
+type_joined : (name : Word) (holds : FieldType) → is_joined (word name ∷ says phrase.Colon ∷ (type_pieces holds ++ says phrase.Comma ∷ [])) ≡ true
 type_joined name (holds.One element) = one_joined name element
 type_joined name (holds.Array element count) = array_joined name element count
 type_joined name (holds.Gap bytes) = refl
@@ -147,7 +153,7 @@ type_joined name (holds.Gap bytes) = refl
 field_fine : (depth : ℕ) (field : StructField) → valid_field field ≡ true → IsFine (field_line depth field)
 field_fine depth field valid = record {
   joined = type_joined field.name field.holds;
-  runs = (identifier_run field.name (both_left (is_identifier field.name) (valid_type field.holds) valid), runs-append (type_pieces field.holds) (text (codes ",") ∷ []) (type_runs field.holds (both_right (is_identifier field.name) (valid_type field.holds) valid)) tt);
+  runs = (identifier_run field.name (both_left (is_identifier field.name) (valid_type field.holds) valid), runs-append (type_pieces field.holds) (says phrase.Comma ∷ []) (type_runs field.holds (both_right (is_identifier field.name) (valid_type field.holds) valid)) tt);
 }
 
 body_runs : (body : Body) → valid_body body ≡ true → Runs (body_pieces body)
@@ -158,23 +164,17 @@ body_runs (body.AtIndex offset stride count) valid =
     let more = both_right (is_number offset) (is_number stride && is_number count) valid in
     (hexadecimal_run offset, (decimal_run stride (both_left (is_number stride) (is_number count) more), (decimal_run count (both_right (is_number stride) (is_number count) more), tt)))
 
-access_joined : (name : Word) (is_indexed : Bool) (element : Element) (body : Body) → is_joined (text (codes "pub fn ") ∷ word name ∷ text (index_text is_indexed) ∷ (element_pieces element ++ text (codes " { ") ∷ (body_pieces body ++ text (codes " }") ∷ []))) ≡ true
-access_joined name true (element.Register unit) (body.Field f) = refl
-access_joined name true (element.Register unit) (body.Member f) = refl
-access_joined name true (element.Register unit) (body.At offset) = refl
-access_joined name true (element.Register unit) (body.AtIndex offset stride count) = refl
-access_joined name true (element.Block unit) (body.Field f) = refl
-access_joined name true (element.Block unit) (body.Member f) = refl
-access_joined name true (element.Block unit) (body.At offset) = refl
-access_joined name true (element.Block unit) (body.AtIndex offset stride count) = refl
-access_joined name false (element.Register unit) (body.Field f) = refl
-access_joined name false (element.Register unit) (body.Member f) = refl
-access_joined name false (element.Register unit) (body.At offset) = refl
-access_joined name false (element.Register unit) (body.AtIndex offset stride count) = refl
-access_joined name false (element.Block unit) (body.Field f) = refl
-access_joined name false (element.Block unit) (body.Member f) = refl
-access_joined name false (element.Block unit) (body.At offset) = refl
-access_joined name false (element.Block unit) (body.AtIndex offset stride count) = refl
+body_joined : (body : Body) → is_joined (says phrase.OpensBody ∷ body_pieces body) ≡ true
+body_joined (body.Field f) = refl
+body_joined (body.Member f) = refl
+body_joined (body.At offset) = refl
+body_joined (body.AtIndex offset stride count) = refl
+
+access_joined : (name : Word) (is_indexed : Bool) (element : Element) (body : Body) → is_joined (says phrase.PubFn ∷ word name ∷ says (receiver is_indexed) ∷ says phrase.Reference ∷ (element_pieces element ++ says phrase.OpensBody ∷ body_pieces body)) ≡ true
+access_joined name true (element.Register unit) body = body_joined body
+access_joined name true (element.Block unit) body = body_joined body
+access_joined name false (element.Register unit) body = body_joined body
+access_joined name false (element.Block unit) body = body_joined body
 
 access_fine : (depth : ℕ) (access : Access) → valid_access access ≡ true → IsFine (access_line depth access)
 access_fine depth access valid =
@@ -183,8 +183,8 @@ access_fine depth access valid =
       joined = access_joined access.name access.is_indexed access.element access.body;
       runs = (
         identifier_run access.name (both_left (is_identifier access.name) (valid_element access.element && valid_body access.body) valid),
-        runs-append (element_pieces access.element) (text (codes " { ") ∷ (body_pieces access.body ++ text (codes " }") ∷ [])) (element_runs access.element (both_left (valid_element access.element) (valid_body access.body) more))
-            (runs-append (body_pieces access.body) (text (codes " }") ∷ []) (body_runs access.body (both_right (valid_element access.element) (valid_body access.body) more)) tt),
+        runs-append (element_pieces access.element) (says phrase.OpensBody ∷ body_pieces access.body) (element_runs access.element (both_left (valid_element access.element) (valid_body access.body) more))
+            (body_runs access.body (both_right (valid_element access.element) (valid_body access.body) more)),
       );
     }
 
@@ -206,43 +206,61 @@ reset_fine depth constant = record { joined = refl; runs = (width_run constant.w
 marker_fine : (depth : ℕ) (marker : Word) → is_identifier marker ≡ true → IsFine (marker_line depth marker)
 marker_fine depth marker valid = record { joined = refl; runs = (identifier_run marker valid, tt) }
 
-read_fine : (depth : ℕ) (name marker : Word) (form : ReadForm) → is_identifier name ≡ true → is_identifier marker ≡ true → valid_read form ≡ true → IsFine (reader_line depth (record { name = name; marker = marker; form = form }))
-read_fine depth name marker (read.Bit shift mask) of_name of_marker valid = record {
-  joined = refl;
-  runs = (identifier_run name of_name, (identifier_run marker of_marker, (decimal_run shift (both_left (is_number shift) (is_number mask) valid), (hexadecimal_run mask, tt))));
-}
-read_fine depth name marker (read.Field bits shift mask) of_name of_marker valid = record {
-  joined = refl;
-  runs = (identifier_run name of_name, (identifier_run marker of_marker, (width_run bits, (decimal_run shift (both_left (is_number shift) (is_number mask) valid), (hexadecimal_run mask, (width_run bits, tt))))));
-}
+spot_runs : (spot : Spot) (after : List Piece) → valid_spot spot ≡ true → Runs after → Runs (spot_pieces spot ++ after)
+spot_runs (Fixed place) after valid runs = (decimal_run place valid, runs)
+spot_runs (Indexed offset step count) after valid runs =
+    let more = both_right (is_number offset) (is_number step && is_number count) valid in
+    (decimal_run offset (both_left (is_number offset) (is_number step && is_number count) valid), (decimal_run step (both_left (is_number step) (is_number count) more), (decimal_run count (both_right (is_number step) (is_number count) more), runs)))
 
-reader_fine : (depth : ℕ) (reader : Reader) → valid_reader reader ≡ true → IsFine (reader_line depth reader)
-reader_fine depth reader valid =
-    let more = both_right (is_identifier reader.name) (is_identifier reader.marker && valid_read reader.form) valid in
-    read_fine depth reader.name reader.marker reader.form (both_left (is_identifier reader.name) (is_identifier reader.marker && valid_read reader.form) valid) (both_left (is_identifier reader.marker) (valid_read reader.form) more) (both_right (is_identifier reader.marker) (valid_read reader.form) more)
+read_joined : (depth : ℕ) (name marker : Word) (form : ReadForm) → is_joined (reader_line depth (record { name = name; marker = marker; form = form })).pieces ≡ true
+read_joined depth name marker (read.Bit (Fixed place) mask) = refl
+read_joined depth name marker (read.Bit (Indexed offset step count) mask) = refl
+read_joined depth name marker (read.Field bits (Fixed place) mask) = refl
+read_joined depth name marker (read.Field bits (Indexed offset step count) mask) = refl
 
-write_fine : (depth : ℕ) (name marker : Word) (form : WriteForm) → is_identifier name ≡ true → is_identifier marker ≡ true → valid_write form ≡ true → IsFine (writer_line depth (record { name = name; marker = marker; form = form }))
-write_fine depth name marker (write.Bit kind offset) of_name of_marker valid = record {
-  joined = refl;
-  runs = (identifier_run name of_name, (kind_run kind, (identifier_run marker of_marker, (kind_run kind, (decimal_run offset valid, tt)))));
-}
-write_fine depth name marker (write.Field bits wide offset) of_name of_marker valid = record {
-  joined = refl;
-  runs = (identifier_run name of_name, (identifier_run marker of_marker, (width_run bits, (decimal_run wide (both_left (is_number wide) (is_number offset) valid), (decimal_run offset (both_right (is_number wide) (is_number offset) valid), tt)))));
-}
+read_runs : (depth : ℕ) (name marker : Word) (form : ReadForm) → is_identifier name ≡ true → is_identifier marker ≡ true → valid_read form ≡ true → Runs (reader_line depth (record { name = name; marker = marker; form = form })).pieces
+read_runs depth name marker (read.Bit spot mask) of_name of_marker valid =
+    (identifier_run name of_name, (identifier_run marker of_marker, spot_runs spot _ (both_left (valid_spot spot) (is_number mask) valid) (hexadecimal_run mask, tt)))
+read_runs depth name marker (read.Field bits spot mask) of_name of_marker valid =
+    (identifier_run name of_name, (identifier_run marker of_marker, (width_run bits, spot_runs spot _ (both_left (valid_spot spot) (is_number mask) valid) (hexadecimal_run mask, (width_run bits, tt)))))
 
-writer_fine : (depth : ℕ) (writer : Writer) → valid_writer writer ≡ true → IsFine (writer_line depth writer)
-writer_fine depth writer valid =
-    let more = both_right (is_identifier writer.name) (is_identifier writer.marker && valid_write writer.form) valid in
-    write_fine depth writer.name writer.marker writer.form (both_left (is_identifier writer.name) (is_identifier writer.marker && valid_write writer.form) valid) (both_left (is_identifier writer.marker) (valid_write writer.form) more) (both_right (is_identifier writer.marker) (valid_write writer.form) more)
+reader_fine : (version : Version) (depth : ℕ) (reader : Reader) → valid_reader version reader ≡ true → IsFine (reader_line depth reader)
+reader_fine version depth reader valid =
+    let named = both_right (stands_in version (spot_read reader.form)) (is_identifier reader.name && (is_identifier reader.marker && valid_read reader.form)) valid in
+    let more = both_right (is_identifier reader.name) (is_identifier reader.marker && valid_read reader.form) named in
+    record {
+      joined = read_joined depth reader.name reader.marker reader.form;
+      runs = read_runs depth reader.name reader.marker reader.form (both_left (is_identifier reader.name) (is_identifier reader.marker && valid_read reader.form) named) (both_left (is_identifier reader.marker) (valid_read reader.form) more) (both_right (is_identifier reader.marker) (valid_read reader.form) more);
+    }
+
+write_joined : (depth : ℕ) (name marker : Word) (form : WriteForm) → is_joined (writer_line depth (record { name = name; marker = marker; form = form })).pieces ≡ true
+write_joined depth name marker (write.Bit kind (Fixed place)) = refl
+write_joined depth name marker (write.Bit kind (Indexed offset step count)) = refl
+write_joined depth name marker (write.Field bits wide (Fixed place)) = refl
+write_joined depth name marker (write.Field bits wide (Indexed offset step count)) = refl
+
+write_runs : (depth : ℕ) (name marker : Word) (form : WriteForm) → is_identifier name ≡ true → is_identifier marker ≡ true → valid_write form ≡ true → Runs (writer_line depth (record { name = name; marker = marker; form = form })).pieces
+write_runs depth name marker (write.Bit kind spot) of_name of_marker valid =
+    (identifier_run name of_name, (kind_run kind, (identifier_run marker of_marker, (kind_run kind, spot_runs spot _ valid tt))))
+write_runs depth name marker (write.Field bits wide spot) of_name of_marker valid =
+    (identifier_run name of_name, (identifier_run marker of_marker, (width_run bits, (decimal_run wide (both_left (is_number wide) (valid_spot spot) valid), spot_runs spot _ (both_right (is_number wide) (valid_spot spot) valid) tt))))
+
+writer_fine : (version : Version) (depth : ℕ) (writer : Writer) → valid_writer version writer ≡ true → IsFine (writer_line depth writer)
+writer_fine version depth writer valid =
+    let named = both_right (stands_in version (spot_written writer.form)) (is_identifier writer.name && (is_identifier writer.marker && valid_write writer.form)) valid in
+    let more = both_right (is_identifier writer.name) (is_identifier writer.marker && valid_write writer.form) named in
+    record {
+      joined = write_joined depth writer.name writer.marker writer.form;
+      runs = write_runs depth writer.name writer.marker writer.form (both_left (is_identifier writer.name) (is_identifier writer.marker && valid_write writer.form) named) (both_left (is_identifier writer.marker) (valid_write writer.form) more) (both_right (is_identifier writer.marker) (valid_write writer.form) more);
+    }
 
 -- ---- lists in braces
 
-closing_fine : (depth : ℕ) → AreFine (fixed depth (codes "}") ∷ [])
+closing_fine : (depth : ℕ) → AreFine (fixed depth (text_of phrase.Closer) ∷ [])
 closing_fine depth = (record { joined = refl; runs = tt }, tt)
 
 braced_fine : (depth : ℕ) (opening : List Piece) (within : List Line) → is_joined opening ≡ true → Runs opening → AreFine within → AreFine (braced depth opening within)
-braced_fine depth opening within joined runs fine = (record { joined = joined; runs = runs }, fine-append within (fixed depth (codes "}") ∷ []) fine (closing_fine depth))
+braced_fine depth opening within joined runs fine = (record { joined = joined; runs = runs }, fine-append within (fixed depth (text_of phrase.Closer) ∷ []) fine (closing_fine depth))
 
 -- ---- values
 
@@ -279,29 +297,29 @@ readable_fine : (depth : ℕ) (readable : Bool) → AreFine (readable_lines dept
 readable_fine depth true = (record { joined = refl; runs = tt }, tt)
 readable_fine depth false = tt
 
-readers_fine : (depth : ℕ) (readers : Option (List Reader)) → valid_option (list_all valid_reader) readers ≡ true → AreFine (readers_lines depth readers)
-readers_fine depth None valid = tt
-readers_fine depth (Some calls) valid = braced_fine depth (text (codes "impl R<Spec> {") ∷ []) (map (reader_line (depth + 1)) calls) refl tt (fine-map valid_reader (reader_line (depth + 1)) (reader_fine (depth + 1)) calls valid)
+readers_fine : (version : Version) → (depth : ℕ) (readers : Option (List Reader)) → valid_option (list_all (valid_reader version)) readers ≡ true → AreFine (readers_lines depth readers)
+readers_fine version depth None valid = tt
+readers_fine version depth (Some calls) valid = braced_fine depth (says phrase.ReadersImpl ∷ []) (map (reader_line (depth + 1)) calls) refl tt (fine-map (valid_reader version) (reader_line (depth + 1)) ((reader_fine version) (depth + 1)) calls valid)
 
-writers_fine : (depth : ℕ) (writers : Option (List Writer)) → valid_option (list_all valid_writer) writers ≡ true → AreFine (writers_lines depth writers)
-writers_fine depth None valid = tt
-writers_fine depth (Some calls) valid = braced_fine depth (text (codes "impl W<Spec> {") ∷ []) (map (writer_line (depth + 1)) calls) refl tt (fine-map valid_writer (writer_line (depth + 1)) (writer_fine (depth + 1)) calls valid)
+writers_fine : (version : Version) → (depth : ℕ) (writers : Option (List Writer)) → valid_option (list_all (valid_writer version)) writers ≡ true → AreFine (writers_lines depth writers)
+writers_fine version depth None valid = tt
+writers_fine version depth (Some calls) valid = braced_fine depth (says phrase.WritersImpl ∷ []) (map (writer_line (depth + 1)) calls) refl tt (fine-map (valid_writer version) (writer_line (depth + 1)) ((writer_fine version) (depth + 1)) calls valid)
 
-register_fine : (depth : ℕ) (unit : RegisterModule) → valid_register unit ≡ true → AreFine (register_lines depth unit)
+register_fine : (version : Version) → (depth : ℕ) (unit : RegisterModule) → (valid_register version) unit ≡ true → AreFine (register_lines depth unit)
 unfolding valid_register register_lines
-register_fine depth unit valid =
+register_fine version depth unit valid =
     let d = depth + 1 in
-    let rest_writable = valid_constant unit.reset && (list_all is_identifier unit.markers && (valid_option (list_all valid_reader) unit.readers && (valid_option (list_all valid_writer) unit.writers && list_all valid_values unit.values))) in
+    let rest_writable = valid_constant unit.reset && (list_all is_identifier unit.markers && (valid_option (list_all (valid_reader version)) unit.readers && (valid_option (list_all (valid_writer version)) unit.writers && list_all valid_values unit.values))) in
     let name = both_left (is_identifier unit.name) (valid_option valid_writable unit.writable && rest_writable) valid in
     let v1 = both_right (is_identifier unit.name) (valid_option valid_writable unit.writable && rest_writable) valid in
     let v2 = both_right (valid_option valid_writable unit.writable) rest_writable v1 in
-    let v3 = both_right (valid_constant unit.reset) (list_all is_identifier unit.markers && (valid_option (list_all valid_reader) unit.readers && (valid_option (list_all valid_writer) unit.writers && list_all valid_values unit.values))) v2 in
-    let of_markers = both_left (list_all is_identifier unit.markers) (valid_option (list_all valid_reader) unit.readers && (valid_option (list_all valid_writer) unit.writers && list_all valid_values unit.values)) v3 in
-    let v4 = both_right (list_all is_identifier unit.markers) (valid_option (list_all valid_reader) unit.readers && (valid_option (list_all valid_writer) unit.writers && list_all valid_values unit.values)) v3 in
-    let of_readers = both_left (valid_option (list_all valid_reader) unit.readers) (valid_option (list_all valid_writer) unit.writers && list_all valid_values unit.values) v4 in
-    let v5 = both_right (valid_option (list_all valid_reader) unit.readers) (valid_option (list_all valid_writer) unit.writers && list_all valid_values unit.values) v4 in
-    let of_writers = both_left (valid_option (list_all valid_writer) unit.writers) (list_all valid_values unit.values) v5 in
-    let of_values = both_right (valid_option (list_all valid_writer) unit.writers) (list_all valid_values unit.values) v5 in
+    let v3 = both_right (valid_constant unit.reset) (list_all is_identifier unit.markers && (valid_option (list_all (valid_reader version)) unit.readers && (valid_option (list_all (valid_writer version)) unit.writers && list_all valid_values unit.values))) v2 in
+    let of_markers = both_left (list_all is_identifier unit.markers) (valid_option (list_all (valid_reader version)) unit.readers && (valid_option (list_all (valid_writer version)) unit.writers && list_all valid_values unit.values)) v3 in
+    let v4 = both_right (list_all is_identifier unit.markers) (valid_option (list_all (valid_reader version)) unit.readers && (valid_option (list_all (valid_writer version)) unit.writers && list_all valid_values unit.values)) v3 in
+    let of_readers = both_left (valid_option (list_all (valid_reader version)) unit.readers) (valid_option (list_all (valid_writer version)) unit.writers && list_all valid_values unit.values) v4 in
+    let v5 = both_right (valid_option (list_all (valid_reader version)) unit.readers) (valid_option (list_all (valid_writer version)) unit.writers && list_all valid_values unit.values) v4 in
+    let of_writers = both_left (valid_option (list_all (valid_writer version)) unit.writers) (list_all valid_values unit.values) v5 in
+    let of_values = both_right (valid_option (list_all (valid_writer version)) unit.writers) (list_all valid_values unit.values) v5 in
     let values = flat_map (values_lines d) unit.values in
     let writers = writers_lines d unit.writers in
     let readers = readers_lines d unit.readers in
@@ -309,12 +327,12 @@ register_fine depth unit valid =
     let writable = writable_lines d unit.writable in
     let readable = readable_lines d unit.readable in
     let fine_values = fine-flat_map valid_values (values_lines d) (values_fine d) unit.values of_values in
-    let fine_writers = fine-append writers values (writers_fine d unit.writers of_writers) fine_values in
-    let fine_readers = fine-append readers (writers ++ values) (readers_fine d unit.readers of_readers) fine_writers in
+    let fine_writers = fine-append writers values ((writers_fine version) d unit.writers of_writers) fine_values in
+    let fine_readers = fine-append readers (writers ++ values) ((readers_fine version) d unit.readers of_readers) fine_writers in
     let fine_markers = fine-append markers (readers ++ (writers ++ values)) (fine-map is_identifier (marker_line d) (marker_fine d) unit.markers of_markers) fine_readers in
     let fine_writable = fine-append writable (reset_line d unit.reset ∷ (markers ++ (readers ++ (writers ++ values)))) (writable_fine d unit.writable) (reset_fine d unit.reset, fine_markers) in
     let fine_readable = fine-append readable (writable ++ (reset_line d unit.reset ∷ (markers ++ (readers ++ (writers ++ values))))) (readable_fine d unit.readable) fine_writable in
-    braced_fine depth (text (codes "pub mod ") ∷ word unit.name ∷ text (codes " {") ∷ []) (part_lines d unit) refl (identifier_run unit.name name, tt)
+    braced_fine depth (says phrase.PubMod ∷ word unit.name ∷ says phrase.OpensModule ∷ []) (part_lines d unit) refl (identifier_run unit.name name, tt)
     (record { joined = refl; runs = tt }, (record { joined = refl; runs = tt }, (record { joined = refl; runs = (width_run unit.word, tt) }, fine_readable)))
 
 -- ---- block modules
@@ -328,38 +346,43 @@ opening_fine depth head valid =
       (
         record { joined = refl; runs = tt },
         fine-append (struct_lines d head.fields) (accessor_lines d head.accessors)
-            (record { joined = refl; runs = tt }, braced_fine d (text (codes "pub struct RegisterBlock {") ∷ []) (map (field_line (d + 1)) head.fields) refl tt (fine-map valid_field (field_line (d + 1)) (field_fine (d + 1)) head.fields (both_left (list_all valid_field head.fields) (list_all valid_access head.accessors) more)))
-            (braced_fine d (text (codes "impl RegisterBlock {") ∷ []) (map (access_line (d + 1)) head.accessors) refl tt (fine-map valid_access (access_line (d + 1)) (access_fine (d + 1)) head.accessors (both_right (list_all valid_field head.fields) (list_all valid_access head.accessors) more))),
+            (record { joined = refl; runs = tt }, braced_fine d (says phrase.OpensStruct ∷ []) (map (field_line (d + 1)) head.fields) refl tt (fine-map valid_field (field_line (d + 1)) (field_fine (d + 1)) head.fields (both_left (list_all valid_field head.fields) (list_all valid_access head.accessors) more)))
+            (braced_fine d (says phrase.BlockImpl ∷ []) (map (access_line (d + 1)) head.accessors) refl tt (fine-map valid_access (access_line (d + 1)) (access_fine (d + 1)) head.accessors (both_right (list_all valid_field head.fields) (list_all valid_access head.accessors) more))),
       ),
     )
 
-modules_fine : (depth : ℕ) (modules : Modules) → valid_modules modules ≡ true → AreFine (modules_lines depth modules)
+modules_fine : (version : Version) → (depth : ℕ) (modules : Modules) → (valid_modules version) modules ≡ true → AreFine (modules_lines depth modules)
 unfolding modules_lines valid_modules
-modules_fine depth ended valid = tt
-modules_fine depth (register unit others) valid =
-    fine-append (register_lines depth unit) (modules_lines depth others) (register_fine depth unit (both_left (valid_register unit) (valid_modules others) valid)) (modules_fine depth others (both_right (valid_register unit) (valid_modules others) valid))
-modules_fine depth (block head inside others) valid =
-    let more = both_right (valid_head head) (valid_modules inside && valid_modules others) valid in
-    fine-append (opening_lines depth head ++ (modules_lines (depth + 1) inside ++ fixed depth (codes "}") ∷ [])) (modules_lines depth others)
-    (fine-append (opening_lines depth head) (modules_lines (depth + 1) inside ++ fixed depth (codes "}") ∷ []) (opening_fine depth head (both_left (valid_head head) (valid_modules inside && valid_modules others) valid))
-    (fine-append (modules_lines (depth + 1) inside) (fixed depth (codes "}") ∷ []) (modules_fine (depth + 1) inside (both_left (valid_modules inside) (valid_modules others) more)) (closing_fine depth)))
-    (modules_fine depth others (both_right (valid_modules inside) (valid_modules others) more))
+modules_fine version depth ended valid = tt
+modules_fine version depth (register unit others) valid =
+    fine-append (register_lines depth unit) (modules_lines depth others) ((register_fine version) depth unit (both_left ((valid_register version) unit) ((valid_modules version) others) valid)) ((modules_fine version) depth others (both_right ((valid_register version) unit) ((valid_modules version) others) valid))
+modules_fine version depth (block head inside others) valid =
+    let more = both_right (valid_head head) ((valid_modules version) inside && (valid_modules version) others) valid in
+    fine-append (opening_lines depth head ++ (modules_lines (depth + 1) inside ++ fixed depth (text_of phrase.Closer) ∷ [])) (modules_lines depth others)
+    (fine-append (opening_lines depth head) (modules_lines (depth + 1) inside ++ fixed depth (text_of phrase.Closer) ∷ []) (opening_fine depth head (both_left (valid_head head) ((valid_modules version) inside && (valid_modules version) others) valid))
+    (fine-append (modules_lines (depth + 1) inside) (fixed depth (text_of phrase.Closer) ∷ []) ((modules_fine version) (depth + 1) inside (both_left ((valid_modules version) inside) ((valid_modules version) others) more)) (closing_fine depth)))
+    ((modules_fine version) depth others (both_right ((valid_modules version) inside) ((valid_modules version) others) more))
 
-block_fine : (unit : BlockTree) → valid_block unit ≡ true → AreFine (top_lines unit)
-block_fine unit valid = (
+block_fine : (version : Version) → (unit : BlockTree) → (valid_block version) unit ≡ true → AreFine (top_lines unit)
+block_fine version unit valid = (
   record { joined = refl; runs = tt },
-  fine-append (opening_lines 0 unit.head) (modules_lines 1 unit.inside ++ fixed 0 (codes "}") ∷ []) (opening_fine 0 unit.head (both_left (valid_head unit.head) (valid_modules unit.inside) valid))
-      (fine-append (modules_lines 1 unit.inside) (fixed 0 (codes "}") ∷ []) (modules_fine 1 unit.inside (both_right (valid_head unit.head) (valid_modules unit.inside) valid)) (closing_fine 0)),
+  fine-append (opening_lines 0 unit.head) (modules_lines 1 unit.inside ++ fixed 0 (text_of phrase.Closer) ∷ []) (opening_fine 0 unit.head (both_left (valid_head unit.head) ((valid_modules version) unit.inside) valid))
+      (fine-append (modules_lines 1 unit.inside) (fixed 0 (text_of phrase.Closer) ∷ []) ((modules_fine version) 1 unit.inside (both_right (valid_head unit.head) ((valid_modules version) unit.inside) valid)) (closing_fine 0)),
 )
 
 -- ---- the crate
 
+version_fine : (version : Version) → AreFine (version_lines version)
+version_fine One = tt
+version_fine Two = (record { joined = refl; runs = tt }, tt)
+
 crate_fine : (krate : CrateTree) → valid_crate krate ≡ true → AreFine (crate_lines krate)
 unfolding crate_lines
 crate_fine krate valid =
-    fine-append (slots_lines krate.slots) (flat_map top_lines krate.blocks)
-    (record { joined = refl; runs = tt }, (record { joined = refl; runs = tt }, braced_fine 0 (text (codes "pub struct Peripherals {") ∷ []) (map (slot_line 1) krate.slots) refl tt (fine-map valid_slot (slot_line 1) (slot_fine 1) krate.slots (both_left (list_all valid_slot krate.slots) (list_all valid_block krate.blocks) valid))))
-    (fine-flat_map valid_block top_lines block_fine krate.blocks (both_right (list_all valid_slot krate.slots) (list_all valid_block krate.blocks) valid))
+    fine-append (version_lines krate.version) (slots_lines krate.slots ++ flat_map top_lines krate.blocks) (version_fine krate.version)
+    (fine-append (slots_lines krate.slots) (flat_map top_lines krate.blocks)
+    (record { joined = refl; runs = tt }, (record { joined = refl; runs = tt }, braced_fine 0 (says phrase.OpensPeripherals ∷ []) (map (slot_line 1) krate.slots) refl tt (fine-map valid_slot (slot_line 1) (slot_fine 1) krate.slots (both_left (list_all valid_slot krate.slots) (list_all (valid_block krate.version) krate.blocks) valid))))
+    (fine-flat_map (valid_block krate.version) top_lines (block_fine krate.version) krate.blocks (both_right (list_all valid_slot krate.slots) (list_all (valid_block krate.version) krate.blocks) valid)))
 
 -- The words of the printed form of a valid crate are those of its productions.
 pub printed_words : (krate : CrateTree) → valid_crate krate ≡ true → words_in (printed krate) ≡ crate_words krate

@@ -1,6 +1,6 @@
 -- How far the modules of a crate are printed.
 use Rattle.std.proofs.Common.{◌≡◌, ℕ, ◌+◌, ◌<◌, ◌≤◌, List, [], ◌∷◌, ◌++◌, Option, map, drop, length, refl, sym, ap, ◌∙◌, subst, append_assoc, add-one, slice_index_or}
-use Rattle.std.specs.Prelude.{codes, Result}
+use Rattle.std.specs.Prelude.{Result}
 use Rattle.std.specs.List.{flat_map}
 use Rattle.std.proofs.lemmas.Grind.{flat_map-append}
 use Rattle.std.proofs.lemmas.List.{append-nil, drop_all}
@@ -10,13 +10,15 @@ use Rattle.pac_io.specs.WrittenUpTo.{WrittenUpTo}
 use Rattle.pac_io.specs.Writing.{AppendsPrefix, WritesUpTo}
 use Rattle.pac_io.specs.declared.fault.SinkFault.{SinkFault}
 use Rattle.pac_io.proofs.WrittenUpTo.{begun, page_went_on, page_broke_off, run_up_to}
+use Rattle.frag_tree.specs.Phrases.{text_of}
+use Rattle.frag_tree.specs.declared.phrase.Phrase.TheVariants as phrase
 use Rattle.frag_tree.specs.declared.block.Block.{Block, out-Block}
 use Rattle.frag_tree.proofs.Trees.{block_tree-is}
 use Rattle.frag_tree.specs.declared.block.Module.{Module}
 use Rattle.frag_tree.specs.Blocks.{opening_lines, modules_lines, module_lines, block_tree_lines}
 use Rattle.frag_tree.specs.declared.krate.Crate.{Crate}
 use Rattle.frag_tree.specs.declared.krate.Slot.{Slot}
-use Rattle.frag_tree.specs.Crates.{top_lines, slots_lines, crate_lines, printed}
+use Rattle.frag_tree.specs.Crates.{top_lines, slots_lines, version_lines, crate_lines, printed}
 use Rattle.frag_tree.specs.Trees.{BlockTree, ModuleTree, Modules, one_block, one_register, before, in_line, block_tree, module_tree, crate_tree}
 
 -- how far a list of things has come on the page: `left` is still to come
@@ -28,7 +30,7 @@ pub record PrintedUpTo (old now : Option (List ℕ)) (faults count : ℕ) (all p
 
 -- the line that ends a block
 abbrev pub closing : ℕ → List ℕ
-closing depth = line_text (fixed depth (codes "}"))
+closing depth = line_text (fixed depth (text_of phrase.Closer))
 
 -- the modules inside a block
 abbrev pub inner : ℕ → BlockTree → List ℕ
@@ -37,7 +39,7 @@ inner depth tree = lines_text (modules_lines (depth + 1) tree.inside)
 -- what is still to come behind the opening of a block
 pub behind_opening : (depth : ℕ) (tree : BlockTree) (old page : List ℕ) → page ≡ old ++ lines_text (opening_lines depth tree.head) → old ++ lines_text (block_tree_lines depth tree) ≡ page ++ (inner depth tree ++ closing depth)
 behind_opening depth tree old page is =
-    rw (is, flat_map-append line_text (opening_lines depth tree.head) (modules_lines (depth + 1) tree.inside ++ fixed depth (codes "}") ∷ []), flat_map-append line_text (modules_lines (depth + 1) tree.inside) (fixed depth (codes "}") ∷ []), append-nil (closing depth), append_assoc old (lines_text (opening_lines depth tree.head)) (inner depth tree ++ closing depth)) refl
+    rw (is, flat_map-append line_text (opening_lines depth tree.head) (modules_lines (depth + 1) tree.inside ++ fixed depth (text_of phrase.Closer) ∷ []), flat_map-append line_text (modules_lines (depth + 1) tree.inside) (fixed depth (text_of phrase.Closer) ∷ []), append-nil (closing depth), append_assoc old (lines_text (opening_lines depth tree.head)) (inner depth tree ++ closing depth)) refl
 
 -- handing on broke off in the modules of a block
 pub block_broke_off : (told now : Option (List ℕ)) (depth : ℕ) (tree : BlockTree) (old page : List ℕ) → page ≡ old ++ lines_text (opening_lines depth tree.head) → AppendsPrefix told now (page ++ inner depth tree) → AppendsPrefix told now (old ++ lines_text (block_tree_lines depth tree))
@@ -133,8 +135,11 @@ pub modules_done : {old now : Option (List ℕ)} {all : List ℕ} (depth : ℕ) 
 modules_done {old} {now} {all} depth parts i page past so_far =
     subst (λ (xs : List ℕ). WrittenUpTo old now all xs) (ap (λ (left : List Module). page ++ modules_from depth left) (drop_all i parts past) ∙ (ap (λ xs. page ++ xs) (modules_from-none depth) ∙ append-nil page)) so_far
 
--- the slots and then the blocks are the whole crate
-pub whole_crate : (krate : Crate) (slots : List Slot) (blocks : List Block) (start page : List ℕ) → start ≡ [] → slots ≡ krate.slots → blocks ≡ krate.blocks.items → page ≡ start ++ lines_text (slots_lines slots) → page ++ tops_from blocks ≡ printed (crate_tree krate)
+-- the line of the version, the slots and then the blocks are the whole crate
+pub whole_crate : (krate : Crate) (slots : List Slot) (blocks : List Block) (start behind page : List ℕ) → start ≡ [] → slots ≡ krate.slots → blocks ≡ krate.blocks.items → behind ≡ start ++ lines_text (version_lines krate.version) → page ≡ behind ++ lines_text (slots_lines slots) → page ++ tops_from blocks ≡ printed (crate_tree krate)
 unfolding crate_lines crate_tree
-whole_crate krate slots blocks start page empty is-slots is-blocks is =
-    rw (is, empty, is-slots, is-blocks) (sym (flat_map-append line_text (slots_lines krate.slots) (flat_map top_lines (map block_tree krate.blocks.items))))
+whole_crate krate slots blocks start behind page empty is-slots is-blocks first is =
+    rw (is, first, empty, is-slots, is-blocks)
+    (append_assoc (lines_text (version_lines krate.version)) (lines_text (slots_lines krate.slots)) (tops_from krate.blocks.items)
+    ∙ (ap (λ xs. lines_text (version_lines krate.version) ++ xs) (sym (flat_map-append line_text (slots_lines krate.slots) (flat_map top_lines (map block_tree krate.blocks.items))))
+    ∙ sym (flat_map-append line_text (version_lines krate.version) (slots_lines krate.slots ++ flat_map top_lines (map block_tree krate.blocks.items)))))

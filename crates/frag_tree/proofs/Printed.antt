@@ -5,6 +5,8 @@ use Rattle.std.proofs.lemmas.Grind.{flat_map-append}
 use Rattle.std.proofs.lemmas.List.{append-nil}
 use Rattle.std.specs.List.{flat_map}
 use Rattle.frag_words.specs.Lines.{Line, Piece, text, line, fixed, braced, piece_text, line_text, lines_text}
+use Rattle.frag_tree.specs.Phrases.{text_of}
+use Rattle.frag_tree.specs.declared.phrase.Phrase.TheVariants as phrase
 
 -- nothing was put
 pub put_nothing : (old : List ℕ) → old ≡ old ++ lines_text []
@@ -24,9 +26,9 @@ put_then old mid new lines more first then =
     then ∙ (ap (λ bytes. bytes ++ lines_text more) first ∙ (append_assoc old (lines_text lines) (lines_text more) ∙ ap (λ bytes. old ++ bytes) (sym (flat_map-append line_text lines more))))
 
 -- a list in braces was put
-pub put_braced : (old opened within new : List ℕ) (depth : ℕ) (opening : List Piece) (lines : List Line) → opened ≡ old ++ line_text (line depth opening) → within ≡ opened ++ lines_text lines → new ≡ within ++ line_text (fixed depth (codes "}")) → new ≡ old ++ lines_text (braced depth opening lines)
+pub put_braced : (old opened within new : List ℕ) (depth : ℕ) (opening : List Piece) (lines : List Line) → opened ≡ old ++ line_text (line depth opening) → within ≡ opened ++ lines_text lines → new ≡ within ++ line_text (fixed depth (text_of phrase.Closer)) → new ≡ old ++ lines_text (braced depth opening lines)
 put_braced old opened within new depth opening lines first then last =
-    put_more old opened new (line depth opening) (lines ++ fixed depth (codes "}") ∷ []) first (put_then opened within new lines (fixed depth (codes "}") ∷ []) then (put_line within new (fixed depth (codes "}")) last))
+    put_more old opened new (line depth opening) (lines ++ fixed depth (text_of phrase.Closer) ∷ []) first (put_then opened within new lines (fixed depth (text_of phrase.Closer) ∷ []) then (put_line within new (fixed depth (text_of phrase.Closer)) last))
 
 -- the bytes of pieces and more pieces
 pub pieces-append : (pieces more : List Piece) → flat_map piece_text (pieces ++ more) ≡ flat_map piece_text pieces ++ flat_map piece_text more
@@ -35,6 +37,6 @@ pieces-append pieces more = flat_map-append piece_text pieces more
 pub ruleset joined = (pieces-append, append_assoc)
 
 -- the parts of an accessor's line, put one by one
-pub put_access : (spaces : List ℕ) (head element body : List Piece) (between behind : List ℕ) (old a b c d e new : List ℕ) → a ≡ old ++ spaces → b ≡ a ++ flat_map piece_text head → c ≡ b ++ flat_map piece_text element → d ≡ c ++ between → e ≡ d ++ flat_map piece_text body → new ≡ e ++ (behind ++ codes "\n") → new ≡ old ++ (spaces ++ (flat_map piece_text (head ++ (element ++ text between ∷ (body ++ text behind ∷ []))) ++ codes "\n"))
-put_access spaces head element body between behind old a b c d e new is-a is-b is-c is-d is-e is-new =
+pub put_access : (spaces : List ℕ) (head element body : List Piece) (between : List ℕ) (old a b c d e new : List ℕ) → a ≡ old ++ spaces → b ≡ a ++ flat_map piece_text head → c ≡ b ++ flat_map piece_text element → d ≡ c ++ between → e ≡ d ++ flat_map piece_text body → new ≡ e ++ codes "\n" → new ≡ old ++ (spaces ++ (flat_map piece_text (head ++ (element ++ text between ∷ body)) ++ codes "\n"))
+put_access spaces head element body between old a b c d e new is-a is-b is-c is-d is-e is-new =
     rw (is-new, is-e, is-d, is-c, is-b, is-a) (simp (pieces-append, append_assoc, append-nil))

@@ -1,18 +1,18 @@
 -- The productions of the crate text are exact.
 use Rattle.std.proofs.Common.{ℕ, ◌≡◌, List, [], ◌∷◌, ◌++◌, Bool, true, false, ◌⊎◌, inl, inr, refl, sym, ap, ◌∙◌}
 use Rattle.std.specs.Prelude.{◌&&◌, codes}
-use Rattle.std.specs.List.{flat_map}
 use Rattle.std.specs.Str.{bytes_eq}
 use Rattle.std.proofs.lemmas.Slice.Eq.{bytes_eq-Decides}
 use Rattle.std.proofs.lemmas.Grind.{flat_map-append}
-use Rattle.std.proofs.lemmas.List.{append-nil}
-use Rattle.frag_words.specs.Lines.{piece_words, text}
+use Rattle.frag_words.specs.Lines.{piece_words}
 use Rattle.frag_words.specs.Readings.{Reading, IsExact, behind, followed, pair, mapped, words_of_either, either, word_is, among}
-use Rattle.frag_words.specs.Words.{Word, words_in, words_behind}
+use Rattle.frag_words.specs.Words.{Word, words_behind}
 use Rattle.frag_words.proofs.Readings.{Tells, given, both_left, both_right, some_is, if_some, word_exact, spelled_exact, behind_exact, followed_exact, pair_exact, mapped_exact, either_exact}
 use Rattle.frag_words.proofs.Further.{restated_exact, one_of_exact, choice_exact}
 use Rattle.pac_base.specs.declared.width.Width.{Width}
 use Rattle.pac_base.specs.declared.width.Width.TheVariants.{W8, W16, W32, W64}
+use Rattle.frag_tree.specs.Phrases.{words_of, says, receiver}
+use Rattle.frag_tree.specs.declared.phrase.Phrase.TheVariants as phrase
 use Rattle.frag_tree.specs.declared.access.Access.{Access}
 use Rattle.frag_tree.specs.declared.access.Body.{Body}
 use Rattle.frag_tree.specs.declared.access.Body.TheVariants as body
@@ -24,7 +24,7 @@ use Rattle.frag_tree.specs.declared.block.StructField.{StructField}
 use Rattle.frag_tree.specs.declared.krate.Slot.{Slot}
 use Rattle.frag_tree.specs.declared.register.BitKind.{BitKind}
 use Rattle.frag_tree.specs.declared.register.BitKind.TheVariants as kind
-use Rattle.frag_tree.specs.Blocks.{body_pieces, element_pieces, index_text, type_pieces}
+use Rattle.frag_tree.specs.Blocks.{body_pieces, element_pieces, type_pieces}
 use Rattle.frag_tree.specs.Identifiers.{is_identifier}
 use Rattle.frag_tree.specs.Numerals.{hexadecimal_word, decimal_word, width_word, truth_word}
 use Rattle.frag_tree.specs.Productions.{identifier, numeral_at, hexadecimal_reading, decimal_reading, width_reading, truth_reading, kind_reading, slot_words, slot_of, slot_parts, slot_raw, slot_reading, element_words, element_of, element_parts, element_raw, element_reading, type_words, type_of, type_parts, type_raw, type_reading, field_words, field_of, field_parts, field_raw, field_reading, body_words, body_of, body_parts, body_raw, body_reading, index_reading, access_words, access_of, access_parts, access_raw, access_reading}
@@ -104,7 +104,7 @@ not_word word other valid invalid = other_word (bytes_eq word other) word other 
 slot_raw_exact : IsExact (Word × (Word × ℕ)) slot_raw
 unfolding slot_raw
 slot_raw_exact =
-    behind_exact (words_in (codes "pub ")) _ (pair_exact identifier _ identifier_exact (behind_exact (words_in (codes ": Periph<")) _ (pair_exact identifier _ identifier_exact (behind_exact (words_in (codes "::RegisterBlock, ")) _ (followed_exact hexadecimal_reading (λ _. words_in (codes ">,")) hexadecimal_exact)))))
+    behind_exact (words_of phrase.Pub) _ (pair_exact identifier _ identifier_exact (behind_exact (words_of phrase.OpensPeriph) _ (pair_exact identifier _ identifier_exact (behind_exact (words_of phrase.BlockThenNext) _ (followed_exact hexadecimal_reading (λ _. words_of phrase.ClosesSlot) hexadecimal_exact)))))
 
 pub slot_exact : IsExact Slot slot_reading
 unfolding slot_reading slot_raw hexadecimal_reading words_behind
@@ -112,7 +112,7 @@ slot_exact = restated_exact slot_words valid_slot (mapped slot_of slot_parts slo
 
 -- ---- elements
 
-element_tells : Tells Word Word (word_is 1 (codes "<")) (behind (words_in (codes "Reg<")) (followed identifier (λ _. words_in (codes "::Spec>")))) (followed identifier (λ _. words_in (codes "::RegisterBlock")))
+element_tells : Tells Word Word (word_is 1 (codes "<")) (behind (words_of phrase.OpensReg) (followed identifier (λ _. words_of phrase.ClosesReg))) (followed identifier (λ _. words_of phrase.OfBlock))
 unfolding words_behind
 element_tells = record { yes = λ tree rest valid. refl; no_other = λ tree rest valid. refl }
 
@@ -120,8 +120,8 @@ element_raw_exact : IsExact (Word ⊎ Word) element_raw
 unfolding element_raw
 element_raw_exact =
     either_exact (word_is 1 (codes "<")) _ _ element_tells
-    (behind_exact (words_in (codes "Reg<")) _ (followed_exact identifier (λ _. words_in (codes "::Spec>")) identifier_exact))
-    (followed_exact identifier (λ _. words_in (codes "::RegisterBlock")) identifier_exact)
+    (behind_exact (words_of phrase.OpensReg) _ (followed_exact identifier (λ _. words_of phrase.ClosesReg) identifier_exact))
+    (followed_exact identifier (λ _. words_of phrase.OfBlock) identifier_exact)
 
 pub element_exact : IsExact Element element_reading
 unfolding element_reading element_raw words_behind
@@ -146,10 +146,10 @@ element_exact = restated_exact element_words valid_element (mapped element_of el
 -- ---- types
 
 abbrev gap_of_type : Reading ℕ
-gap_of_type = behind (words_in (codes "[u8; ")) (followed decimal_reading (λ _. words_in (codes "]")))
+gap_of_type = behind (words_of phrase.OpensGap) (followed decimal_reading (λ _. words_of phrase.ClosesArray))
 
 abbrev array_of_type : Reading (Element × ℕ)
-array_of_type = behind (words_in (codes "[")) (pair element_reading (behind (words_in (codes "; ")) (followed decimal_reading (λ _. words_in (codes "]")))))
+array_of_type = behind (words_of phrase.OpensArray) (pair element_reading (behind (words_of phrase.Semicolon) (followed decimal_reading (λ _. words_of phrase.ClosesArray))))
 
 -- behind a bracket no semicolon stands at the third place of an array
 array_third : (element : Element) (count : ℕ) (rest : List Word) → word_is 2 (codes ";") (array_of_type.words (element, count) ++ rest) ≡ false
@@ -181,8 +181,8 @@ unfolding type_raw
 type_raw_exact =
     either_exact (word_is 0 (codes "[")) _ _ type_tells
     (either_exact (word_is 2 (codes ";")) _ _ gap_tells
-    (behind_exact (words_in (codes "[u8; ")) _ (followed_exact decimal_reading (λ _. words_in (codes "]")) decimal_exact))
-    (behind_exact (words_in (codes "[")) _ (pair_exact element_reading _ element_exact (behind_exact (words_in (codes "; ")) _ (followed_exact decimal_reading (λ _. words_in (codes "]")) decimal_exact)))))
+    (behind_exact (words_of phrase.OpensGap) _ (followed_exact decimal_reading (λ _. words_of phrase.ClosesArray) decimal_exact))
+    (behind_exact (words_of phrase.OpensArray) _ (pair_exact element_reading _ element_exact (behind_exact (words_of phrase.Semicolon) _ (followed_exact decimal_reading (λ _. words_of phrase.ClosesArray) decimal_exact)))))
     element_exact
 
 pub type_exact : IsExact FieldType type_reading
@@ -217,27 +217,27 @@ type_exact = restated_exact type_words valid_type (mapped type_of type_parts typ
 
 field_raw_exact : IsExact (Word × FieldType) field_raw
 unfolding field_raw
-field_raw_exact = pair_exact identifier _ identifier_exact (behind_exact (words_in (codes ": ")) _ (followed_exact type_reading (λ _. words_in (codes ",")) type_exact))
+field_raw_exact = pair_exact identifier _ identifier_exact (behind_exact (words_of phrase.Colon) _ (followed_exact type_reading (λ _. words_of phrase.Comma) type_exact))
 
 pub field_exact : IsExact StructField field_reading
 unfolding field_reading field_raw type_reading words_behind
 field_exact = restated_exact field_words valid_field (mapped field_of field_parts field_raw)
-    (λ tree. ap (λ xs. (tree.name ∷ []) ++ (words_in (codes ": ") ++ xs)) (flat_map-append piece_words (type_pieces tree.holds) (text (codes ",") ∷ [])))
+    (λ tree. ap (λ xs. (tree.name ∷ []) ++ (words_of phrase.Colon ++ xs)) (flat_map-append piece_words (type_pieces tree.holds) (says phrase.Comma ∷ [])))
     (λ tree. refl) (mapped_exact field_of field_parts field_raw (λ tree. refl) (λ tree. refl) field_raw_exact)
 
 -- ---- bodies
 
 abbrev field_of_body : Reading Word
-field_of_body = behind (words_in (codes "&self.")) (followed identifier (λ _. words_in (codes " }")))
+field_of_body = behind (words_of phrase.FieldOfSelf) (followed identifier (λ _. words_of phrase.ClosesBody))
 
 abbrev member_of_body : Reading Word
-member_of_body = behind (words_in (codes "&self.")) (followed identifier (λ _. words_in (codes "[n] }")))
+member_of_body = behind (words_of phrase.FieldOfSelf) (followed identifier (λ _. words_of phrase.ClosesMember))
 
 abbrev at_of_body : Reading ℕ
-at_of_body = behind (words_in (codes "at(self, ")) (followed hexadecimal_reading (λ _. words_in (codes ") }")))
+at_of_body = behind (words_of phrase.OpensAt) (followed hexadecimal_reading (λ _. words_of phrase.ClosesCall))
 
 abbrev at_index_of_body : Reading (ℕ × (ℕ × ℕ))
-at_index_of_body = behind (words_in (codes "at_index(self, ")) (pair hexadecimal_reading (behind (words_in (codes ", ")) (pair decimal_reading (behind (words_in (codes ", ")) (followed decimal_reading (λ _. words_in (codes ", n) }")))))))
+at_index_of_body = behind (words_of phrase.OpensAtIndex) (pair hexadecimal_reading (behind (words_of phrase.ThenNext) (pair decimal_reading (behind (words_of phrase.ThenNext) (followed decimal_reading (λ _. words_of phrase.ClosesAtIndex))))))
 
 member_tells : Tells Word Word (word_is 4 (codes "}")) field_of_body member_of_body
 unfolding words_behind
@@ -262,11 +262,11 @@ unfolding body_raw
 body_raw_exact =
     either_exact (word_is 0 (codes "&")) _ _ (record { yes = λ tree rest valid. self_first tree rest; no_other = λ tree rest valid. at_first tree rest })
     (either_exact (word_is 4 (codes "}")) _ _ member_tells
-    (behind_exact (words_in (codes "&self.")) _ (followed_exact identifier (λ _. words_in (codes " }")) identifier_exact))
-    (behind_exact (words_in (codes "&self.")) _ (followed_exact identifier (λ _. words_in (codes "[n] }")) identifier_exact)))
+    (behind_exact (words_of phrase.FieldOfSelf) _ (followed_exact identifier (λ _. words_of phrase.ClosesBody) identifier_exact))
+    (behind_exact (words_of phrase.FieldOfSelf) _ (followed_exact identifier (λ _. words_of phrase.ClosesMember) identifier_exact)))
     (either_exact (word_is 0 (codes "at")) _ _ at_tells
-    (behind_exact (words_in (codes "at(self, ")) _ (followed_exact hexadecimal_reading (λ _. words_in (codes ") }")) hexadecimal_exact))
-    (behind_exact (words_in (codes "at_index(self, ")) _ (pair_exact hexadecimal_reading _ hexadecimal_exact (behind_exact (words_in (codes ", ")) _ (pair_exact decimal_reading _ decimal_exact (behind_exact (words_in (codes ", ")) _ (followed_exact decimal_reading (λ _. words_in (codes ", n) }")) decimal_exact)))))))
+    (behind_exact (words_of phrase.OpensAt) _ (followed_exact hexadecimal_reading (λ _. words_of phrase.ClosesCall) hexadecimal_exact))
+    (behind_exact (words_of phrase.OpensAtIndex) _ (pair_exact hexadecimal_reading _ hexadecimal_exact (behind_exact (words_of phrase.ThenNext) _ (pair_exact decimal_reading _ decimal_exact (behind_exact (words_of phrase.ThenNext) _ (followed_exact decimal_reading (λ _. words_of phrase.ClosesAtIndex) decimal_exact)))))))
 
 pub body_exact : IsExact Body body_reading
 unfolding body_reading body_raw hexadecimal_reading decimal_reading words_behind
@@ -300,9 +300,9 @@ body_exact = restated_exact body_words valid_body (mapped body_of body_parts bod
 
 index_exact : IsExact Bool index_reading
 unfolding index_reading words_behind
-index_exact = choice_exact (word_is 3 (codes ",")) (words_in (codes "(&self, n: usize) -> &")) (words_in (codes "(&self) -> &")) (record { holds = λ rest. refl; fails = λ rest. refl })
+index_exact = choice_exact (word_is 3 (codes ",")) (words_of (receiver true)) (words_of (receiver false)) (record { holds = λ rest. refl; fails = λ rest. refl })
 
-index_words : (is_indexed : Bool) → words_in (index_text is_indexed) ≡ index_reading.words is_indexed
+index_words : (is_indexed : Bool) → words_of (receiver is_indexed) ≡ index_reading.words is_indexed
 unfolding index_reading words_behind
 index_words true = refl
 index_words false = refl
@@ -315,15 +315,14 @@ index_valid false = refl
 access_raw_exact : IsExact (Word × (Bool × (Element × Body))) access_raw
 unfolding access_raw
 access_raw_exact =
-    behind_exact (words_in (codes "pub fn ")) _ (pair_exact identifier _ identifier_exact (pair_exact index_reading _ index_exact (pair_exact element_reading _ element_exact (behind_exact (words_in (codes " { ")) body_reading body_exact))))
+    behind_exact (words_of phrase.PubFn) _ (pair_exact identifier _ identifier_exact (pair_exact index_reading _ index_exact (behind_exact (words_of phrase.Reference) _ (pair_exact element_reading _ element_exact (behind_exact (words_of phrase.OpensBody) body_reading body_exact)))))
 
 access_words-are : (name : Word) (is_indexed : Bool) (element : Element) (body : Body) → access_words (record { name = name; is_indexed = is_indexed; element = element; body = body }) ≡ access_raw.words (name, (is_indexed, (element, body)))
 unfolding access_raw element_reading body_reading
 access_words-are name is_indexed element body =
-    ap (λ xs. words_in (codes "pub fn ") ++ ((name ∷ []) ++ (words_in (index_text is_indexed) ++ xs)))
-    (flat_map-append piece_words (element_pieces element) (text (codes " { ") ∷ (body_pieces body ++ text (codes " }") ∷ []))
-    ∙ ap (λ xs. element_words element ++ (words_in (codes " { ") ++ xs)) (flat_map-append piece_words (body_pieces body) (text (codes " }") ∷ []) ∙ ap (λ xs. flat_map piece_words (body_pieces body) ++ xs) (append-nil (words_in (codes " }")))))
-    ∙ ap (λ xs. words_in (codes "pub fn ") ++ ((name ∷ []) ++ (xs ++ (element_words element ++ (words_in (codes " { ") ++ body_words body))))) (index_words is_indexed)
+    ap (λ xs. words_of phrase.PubFn ++ ((name ∷ []) ++ (words_of (receiver is_indexed) ++ (words_of phrase.Reference ++ xs))))
+    (flat_map-append piece_words (element_pieces element) (says phrase.OpensBody ∷ body_pieces body))
+    ∙ ap (λ xs. words_of phrase.PubFn ++ ((name ∷ []) ++ (xs ++ (words_of phrase.Reference ++ (element_words element ++ (words_of phrase.OpensBody ++ body_words body)))))) (index_words is_indexed)
 
 pub access_exact : IsExact Access access_reading
 unfolding access_reading access_raw element_reading body_reading

@@ -5,10 +5,12 @@ use Rattle.std.specs.List.{flat_map, list_all}
 use Rattle.std.proofs.Math.Bool.{and-true}
 use Rattle.std.proofs.lemmas.List.{append-nil}
 use Rattle.frag_words.specs.Readings.{IsExact, mapped, words_of_either, either, word_is}
-use Rattle.frag_words.specs.Words.{Word, words_in, words_behind}
+use Rattle.frag_words.specs.Words.{Word, words_behind}
 use Rattle.frag_words.proofs.Readings.{Tells, behind_exact, pair_exact, mapped_exact, either_exact}
 use Rattle.frag_words.proofs.Further.{restated_exact}
 use Rattle.pac_base.specs.declared.width.Width.{Width}
+use Rattle.frag_tree.specs.Phrases.{words_of}
+use Rattle.frag_tree.specs.declared.phrase.Phrase.TheVariants as phrase
 use Rattle.frag_tree.specs.declared.register.BitKind.{BitKind}
 use Rattle.frag_tree.specs.declared.register.BitKind.TheVariants as kind
 use Rattle.frag_tree.specs.declared.register.NumberCall.{NumberCall}
@@ -42,19 +44,19 @@ number_writes_exact = until_brace number_write (λ tree rest. refl) number_write
 
 bit_reading_exact : IsExact (Word × List TruthCall) bit_reading_raw
 unfolding bit_reading_raw
-bit_reading_exact = behind_exact (words_in (codes "impl BitReader<")) _ (pair_exact identifier _ identifier_exact (behind_exact (words_in (codes "> {")) (calls_until truth_test) truth_tests_exact))
+bit_reading_exact = behind_exact (words_of phrase.BitReaderImpl) _ (pair_exact identifier _ identifier_exact (behind_exact (words_of phrase.OpensCalls) (calls_until truth_test) truth_tests_exact))
 
 field_reading_exact : IsExact (Word × (Width × List NumberCall)) field_reading_raw
 unfolding field_reading_raw
-field_reading_exact = behind_exact (words_in (codes "impl FieldReader<")) _ (pair_exact identifier _ identifier_exact (behind_exact (words_in (codes ", ")) _ (pair_exact width_reading _ width_exact (behind_exact (words_in (codes "> {")) (calls_until number_test) number_tests_exact))))
+field_reading_exact = behind_exact (words_of phrase.FieldReaderImpl) _ (pair_exact identifier _ identifier_exact (behind_exact (words_of phrase.ThenNext) _ (pair_exact width_reading _ width_exact (behind_exact (words_of phrase.OpensCalls) (calls_until number_test) number_tests_exact))))
 
 bit_writing_exact : IsExact (BitKind × (Word × List TruthCall)) bit_writing_raw
 unfolding bit_writing_raw
-bit_writing_exact = behind_exact (words_in (codes "impl<'a> ")) _ (pair_exact kind_reading _ kind_exact (behind_exact (words_in (codes "<'a, Spec, ")) _ (pair_exact identifier _ identifier_exact (behind_exact (words_in (codes "> {")) (calls_until truth_write) truth_writes_exact))))
+bit_writing_exact = behind_exact (words_of phrase.WriterImpl) _ (pair_exact kind_reading _ kind_exact (behind_exact (words_of phrase.OfSpecInImpl) _ (pair_exact identifier _ identifier_exact (behind_exact (words_of phrase.OpensCalls) (calls_until truth_write) truth_writes_exact))))
 
 field_writing_exact : IsExact (Word × (Width × (ℕ × List NumberCall))) field_writing_raw
 unfolding field_writing_raw
-field_writing_exact = behind_exact (words_in (codes "impl<'a> FieldWriter<'a, Spec, ")) _ (pair_exact identifier _ identifier_exact (behind_exact (words_in (codes ", ")) _ (pair_exact width_reading _ width_exact (behind_exact (words_in (codes ", ")) _ (pair_exact decimal_reading _ decimal_exact (behind_exact (words_in (codes "> {")) (calls_until number_write) number_writes_exact))))))
+field_writing_exact = behind_exact (words_of phrase.FieldWriterImpl) _ (pair_exact identifier _ identifier_exact (behind_exact (words_of phrase.ThenNext) _ (pair_exact width_reading _ width_exact (behind_exact (words_of phrase.ThenNext) _ (pair_exact decimal_reading _ decimal_exact (behind_exact (words_of phrase.OpensCalls) (calls_until number_write) number_writes_exact))))))
 
 -- ---- which block it is
 
@@ -99,8 +101,8 @@ values_raw_exact =
     (either_exact (word_is 4 (codes "FieldWriter")) _ _ writing_tells field_writing_exact bit_writing_exact))
 
 -- the brace behind a list, with nothing behind it
-closed : {A : Type 0} (words : A → List Word) (items : List A) → flat_map words items ++ words_in (codes "}") ≡ flat_map words items ++ (words_in (codes "}") ++ [])
-closed words items = ap (λ xs. flat_map words items ++ xs) (sym (append-nil (words_in (codes "}"))))
+closed : {A : Type 0} (words : A → List Word) (items : List A) → flat_map words items ++ words_of phrase.Closer ≡ flat_map words items ++ (words_of phrase.Closer ++ [])
+closed words items = ap (λ xs. flat_map words items ++ xs) (sym (append-nil (words_of phrase.Closer)))
 
 pub values_exact : IsExact Values values_reading
 unfolding values_reading values_raw bit_reading_raw field_reading_raw bit_writing_raw field_writing_raw truth_test truth_write number_test number_write kind_reading width_reading decimal_reading words_behind

@@ -1,6 +1,8 @@
 -- The printed form of block modules (this project's own templates, after what svd2rust prints).
-use Rattle.std.specs.Prelude.{ℕ, ◌+◌, Bool, true, false, List, [], ◌∷◌, ◌++◌, codes, map}
-use Rattle.frag_words.specs.Lines.{Piece, Line, text, word, line, fixed, braced}
+use Rattle.std.specs.Prelude.{ℕ, ◌+◌, List, [], ◌∷◌, ◌++◌, map}
+use Rattle.frag_words.specs.Lines.{Piece, Line, word, line, fixed, braced}
+use Rattle.frag_tree.specs.Phrases.{text_of, says, receiver}
+use Rattle.frag_tree.specs.declared.phrase.Phrase.TheVariants as phrase
 use Rattle.frag_tree.specs.declared.access.Access.{Access}
 use Rattle.frag_tree.specs.declared.access.Body.{Body}
 use Rattle.frag_tree.specs.declared.access.Body.TheVariants as body
@@ -15,57 +17,52 @@ use Rattle.frag_tree.specs.Trees.{BlockHead, BlockTree, Modules, ModuleTree, end
 
 -- `Reg<MODULE::Spec>`, `MODULE::RegisterBlock`
 abbrev pub element_pieces : Element → List Piece
-element_pieces (element.Register unit) = text (codes "Reg<") ∷ word unit ∷ text (codes "::Spec>") ∷ []
-element_pieces (element.Block unit) = word unit ∷ text (codes "::RegisterBlock") ∷ []
+element_pieces (element.Register unit) = says phrase.OpensReg ∷ word unit ∷ says phrase.ClosesReg ∷ []
+element_pieces (element.Block unit) = word unit ∷ says phrase.OfBlock ∷ []
 
 -- `[ELEMENT; COUNT]`
 abbrev pub array_pieces : Element → ℕ → List Piece
-array_pieces element count = text (codes "[") ∷ (element_pieces element ++ text (codes "; ") ∷ decimal count ∷ text (codes "]") ∷ [])
+array_pieces element count = says phrase.OpensArray ∷ (element_pieces element ++ says phrase.Semicolon ∷ decimal count ∷ says phrase.ClosesArray ∷ [])
 
 -- `ELEMENT`, `[ELEMENT; COUNT]`, `[u8; BYTES]`
 abbrev pub type_pieces : FieldType → List Piece
 type_pieces (holds.One element) = element_pieces element
 type_pieces (holds.Array element count) = array_pieces element count
-type_pieces (holds.Gap bytes) = text (codes "[u8; ") ∷ decimal bytes ∷ text (codes "]") ∷ []
+type_pieces (holds.Gap bytes) = says phrase.OpensGap ∷ decimal bytes ∷ says phrase.ClosesArray ∷ []
 
 -- `NAME: TYPE,`
 abbrev pub field_line : ℕ → StructField → Line
-field_line depth field = line depth (word field.name ∷ text (codes ": ") ∷ (type_pieces field.holds ++ text (codes ",") ∷ []))
+field_line depth field = line depth (word field.name ∷ says phrase.Colon ∷ (type_pieces field.holds ++ says phrase.Comma ∷ []))
 
--- `self`, and the index where there is one
-abbrev pub index_text : Bool → List ℕ
-index_text true = codes "(&self, n: usize) -> &"
-index_text false = codes "(&self) -> &"
-
--- `&self.FIELD`, `&self.FIELD[n]`, `at(self, OFFSET)`, `at_index(self, OFFSET, STRIDE, COUNT, n)`
+-- `&self.FIELD }`, `&self.FIELD[n] }`, `at(self, OFFSET) }`, `at_index(self, OFFSET, STRIDE, COUNT, n) }`
 abbrev pub body_pieces : Body → List Piece
-body_pieces (body.Field field) = text (codes "&self.") ∷ word field ∷ []
-body_pieces (body.Member field) = text (codes "&self.") ∷ word field ∷ text (codes "[n]") ∷ []
-body_pieces (body.At offset) = text (codes "at(self, ") ∷ hexadecimal offset ∷ text (codes ")") ∷ []
+body_pieces (body.Field field) = says phrase.FieldOfSelf ∷ word field ∷ says phrase.ClosesBody ∷ []
+body_pieces (body.Member field) = says phrase.FieldOfSelf ∷ word field ∷ says phrase.ClosesMember ∷ []
+body_pieces (body.At offset) = says phrase.OpensAt ∷ hexadecimal offset ∷ says phrase.ClosesCall ∷ []
 body_pieces (body.AtIndex offset stride count) =
-    text (codes "at_index(self, ") ∷ hexadecimal offset ∷ text (codes ", ") ∷ decimal stride ∷ text (codes ", ") ∷ decimal count ∷ text (codes ", n)") ∷ []
+    says phrase.OpensAtIndex ∷ hexadecimal offset ∷ says phrase.ThenNext ∷ decimal stride ∷ says phrase.ThenNext ∷ decimal count ∷ says phrase.ClosesAtIndex ∷ []
 
 -- `pub fn NAME(&self) -> &ELEMENT { BODY }`
 abbrev pub access_line : ℕ → Access → Line
 access_line depth access =
-    line depth (text (codes "pub fn ") ∷ word access.name ∷ text (index_text access.is_indexed) ∷ (element_pieces access.element ++ text (codes " { ") ∷ (body_pieces access.body ++ text (codes " }") ∷ [])))
+    line depth (says phrase.PubFn ∷ word access.name ∷ says (receiver access.is_indexed) ∷ says phrase.Reference ∷ (element_pieces access.element ++ says phrase.OpensBody ∷ body_pieces access.body))
 
 -- the struct of a block
 abbrev pub struct_lines : ℕ → List StructField → List Line
 struct_lines depth fields =
-    fixed depth (codes "#[repr(C)]") ∷ braced depth (text (codes "pub struct RegisterBlock {") ∷ []) (map (field_line (depth + 1)) fields)
+    fixed depth (text_of phrase.ReprC) ∷ braced depth (says phrase.OpensStruct ∷ []) (map (field_line (depth + 1)) fields)
 
 -- the accessors of a block
 abbrev pub accessor_lines : ℕ → List Access → List Line
-accessor_lines depth accessors = braced depth (text (codes "impl RegisterBlock {") ∷ []) (map (access_line (depth + 1)) accessors)
+accessor_lines depth accessors = braced depth (says phrase.BlockImpl ∷ []) (map (access_line (depth + 1)) accessors)
 
 -- `pub mod NAME {`
 abbrev pub module_opening : List ℕ → List Piece
-module_opening name = text (codes "pub mod ") ∷ word name ∷ text (codes " {") ∷ []
+module_opening name = says phrase.PubMod ∷ word name ∷ says phrase.OpensModule ∷ []
 
 -- the prelude is in scope in each module
 abbrev pub prelude_line : ℕ → Line
-prelude_line depth = fixed depth (codes "use crate::generic::*;")
+prelude_line depth = fixed depth (text_of phrase.UsePrelude)
 
 -- what stands in a block module before the modules inside it: its opening, the prelude, the struct, the accessors
 unfoldable pub opening_lines : ℕ → BlockHead → List Line
@@ -74,7 +71,7 @@ opening_lines depth head =
 
 -- a block module, with the lines of the modules inside it
 abbrev pub block_lines : ℕ → BlockHead → List Line → List Line
-block_lines depth head inside = opening_lines depth head ++ (inside ++ fixed depth (codes "}") ∷ [])
+block_lines depth head inside = opening_lines depth head ++ (inside ++ fixed depth (text_of phrase.Closer) ∷ [])
 
 -- modules in their order
 unfoldable pub modules_lines : ℕ → Modules → List Line

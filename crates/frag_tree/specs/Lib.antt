@@ -2,6 +2,7 @@ pub mod Identifiers
 pub mod EventLists
 pub mod Trees
 pub mod Numerals
+pub mod Phrases
 pub mod Blocks
 pub mod Registers
 pub mod Crates

@@ -1,14 +1,16 @@
 -- The productions of the crate text as readings of words: the words are those of the printed form, and the readers are put together in the order of the grammar.
-use Rattle.std.specs.Prelude.{ℕ, List, [], ◌∷◌, ◌++◌, Bool, true, false, ◌&&◌, Option, Some, None, codes, drop, if◌then◌else◌, ◌⊎◌}
+use Rattle.std.specs.Prelude.{ℕ, List, [], ◌∷◌, Bool, true, false, ◌&&◌, Option, Some, None, codes, drop, if◌then◌else◌, ◌⊎◌}
 use Rattle.std.proofs.Common.{inl, inr}
 use Rattle.std.specs.List.{flat_map}
 use Rattle.std.specs.Str.{bytes_eq}
 use Rattle.frag_words.specs.Lines.{line_words, piece_words}
 use Rattle.frag_words.specs.Readings.{Reading, word_where, spelled, behind, followed, pair, mapped, either, restated, word_is, one_of, choice}
-use Rattle.frag_words.specs.Words.{Word, words_in}
+use Rattle.frag_words.specs.Words.{Word}
 use Rattle.pac_base.specs.declared.width.Width.{Width}
 use Rattle.pac_base.specs.declared.width.Width.TheVariants.{W8, W16, W32, W64}
 use Rattle.text_scan.specs.Numbers.{value_of}
+use Rattle.frag_tree.specs.Phrases.{words_of, receiver}
+use Rattle.frag_tree.specs.declared.phrase.Phrase.TheVariants as phrase
 use Rattle.frag_tree.specs.declared.access.Access.{Access}
 use Rattle.frag_tree.specs.declared.access.Body.{Body}
 use Rattle.frag_tree.specs.declared.access.Body.TheVariants as body
@@ -64,7 +66,7 @@ slot_parts slot = (slot.name, (slot.block, slot.address))
 
 unfoldable pub slot_raw : Reading (Word × (Word × ℕ))
 slot_raw =
-    behind (words_in (codes "pub ")) (pair identifier (behind (words_in (codes ": Periph<")) (pair identifier (behind (words_in (codes "::RegisterBlock, ")) (followed hexadecimal_reading (λ _. words_in (codes ">,")))))))
+    behind (words_of phrase.Pub) (pair identifier (behind (words_of phrase.OpensPeriph) (pair identifier (behind (words_of phrase.BlockThenNext) (followed hexadecimal_reading (λ _. words_of phrase.ClosesSlot))))))
 
 unfoldable pub slot_reading : Reading Slot
 slot_reading = restated slot_words valid_slot (mapped slot_of slot_parts slot_raw)
@@ -85,8 +87,8 @@ element_parts (element.Block name) = inr name
 unfoldable pub element_raw : Reading (Word ⊎ Word)
 element_raw =
     either (word_is 1 (codes "<"))
-    (behind (words_in (codes "Reg<")) (followed identifier (λ _. words_in (codes "::Spec>"))))
-    (followed identifier (λ _. words_in (codes "::RegisterBlock")))
+    (behind (words_of phrase.OpensReg) (followed identifier (λ _. words_of phrase.ClosesReg)))
+    (followed identifier (λ _. words_of phrase.OfBlock))
 
 unfoldable pub element_reading : Reading Element
 element_reading = restated element_words valid_element (mapped element_of element_parts element_raw)
@@ -108,8 +110,8 @@ unfoldable pub type_raw : Reading ((ℕ ⊎ (Element × ℕ)) ⊎ Element)
 type_raw =
     either (word_is 0 (codes "["))
     (either (word_is 2 (codes ";"))
-    (behind (words_in (codes "[u8; ")) (followed decimal_reading (λ _. words_in (codes "]"))))
-    (behind (words_in (codes "[")) (pair element_reading (behind (words_in (codes "; ")) (followed decimal_reading (λ _. words_in (codes "]")))))))
+    (behind (words_of phrase.OpensGap) (followed decimal_reading (λ _. words_of phrase.ClosesArray)))
+    (behind (words_of phrase.OpensArray) (pair element_reading (behind (words_of phrase.Semicolon) (followed decimal_reading (λ _. words_of phrase.ClosesArray))))))
     element_reading
 
 unfoldable pub type_reading : Reading FieldType
@@ -126,14 +128,14 @@ field_parts field = (field.name, field.holds)
 
 unfoldable pub field_raw : Reading (Word × FieldType)
 field_raw =
-    pair identifier (behind (words_in (codes ": ")) (followed type_reading (λ _. words_in (codes ","))))
+    pair identifier (behind (words_of phrase.Colon) (followed type_reading (λ _. words_of phrase.Comma)))
 
 unfoldable pub field_reading : Reading StructField
 field_reading = restated field_words valid_field (mapped field_of field_parts field_raw)
 
 -- the body of an accessor, and the brace behind it
 abbrev pub body_words : Body → List Word
-body_words body = flat_map piece_words (body_pieces body) ++ words_in (codes " }")
+body_words body = flat_map piece_words (body_pieces body)
 
 abbrev pub body_of : (Word ⊎ Word) ⊎ (ℕ ⊎ (ℕ × (ℕ × ℕ))) → Body
 body_of (inl (inl field)) = body.Field field
@@ -151,18 +153,18 @@ unfoldable pub body_raw : Reading ((Word ⊎ Word) ⊎ (ℕ ⊎ (ℕ × (ℕ × 
 body_raw =
     either (word_is 0 (codes "&"))
     (either (word_is 4 (codes "}"))
-    (behind (words_in (codes "&self.")) (followed identifier (λ _. words_in (codes " }"))))
-    (behind (words_in (codes "&self.")) (followed identifier (λ _. words_in (codes "[n] }")))))
+    (behind (words_of phrase.FieldOfSelf) (followed identifier (λ _. words_of phrase.ClosesBody)))
+    (behind (words_of phrase.FieldOfSelf) (followed identifier (λ _. words_of phrase.ClosesMember))))
     (either (word_is 0 (codes "at"))
-    (behind (words_in (codes "at(self, ")) (followed hexadecimal_reading (λ _. words_in (codes ") }"))))
-    (behind (words_in (codes "at_index(self, ")) (pair hexadecimal_reading (behind (words_in (codes ", ")) (pair decimal_reading (behind (words_in (codes ", ")) (followed decimal_reading (λ _. words_in (codes ", n) }")))))))))
+    (behind (words_of phrase.OpensAt) (followed hexadecimal_reading (λ _. words_of phrase.ClosesCall)))
+    (behind (words_of phrase.OpensAtIndex) (pair hexadecimal_reading (behind (words_of phrase.ThenNext) (pair decimal_reading (behind (words_of phrase.ThenNext) (followed decimal_reading (λ _. words_of phrase.ClosesAtIndex))))))))
 
 unfoldable pub body_reading : Reading Body
 body_reading = restated body_words valid_body (mapped body_of body_parts body_raw)
 
 -- whether an accessor takes an index
 unfoldable pub index_reading : Reading Bool
-index_reading = choice (word_is 3 (codes ",")) (words_in (codes "(&self, n: usize) -> &")) (words_in (codes "(&self) -> &"))
+index_reading = choice (word_is 3 (codes ",")) (words_of (receiver true)) (words_of (receiver false))
 
 abbrev pub access_words : Access → List Word
 access_words access = line_words (access_line 0 access)
@@ -175,7 +177,7 @@ access_parts access = (access.name, (access.is_indexed, (access.element, access.
 
 unfoldable pub access_raw : Reading (Word × (Bool × (Element × Body)))
 access_raw =
-    behind (words_in (codes "pub fn ")) (pair identifier (pair index_reading (pair element_reading (behind (words_in (codes " { ")) body_reading))))
+    behind (words_of phrase.PubFn) (pair identifier (pair index_reading (behind (words_of phrase.Reference) (pair element_reading (behind (words_of phrase.OpensBody) body_reading)))))
 
 unfoldable pub access_reading : Reading Access
 access_reading = restated access_words valid_access (mapped access_of access_parts access_raw)

@@ -1,5 +1,5 @@
 -- A crate as a pure tree, apart from where its parts are kept. The places of its items are no part of it.
-use Rattle.std.specs.Prelude.{ℕ, List, [], ◌∷◌, map}
+use Rattle.std.specs.Prelude.{ℕ, Bool, true, false, List, [], ◌∷◌, map}
 use Rattle.frag_tree.specs.declared.access.Access.{Access}
 use Rattle.frag_tree.specs.declared.block.Block.{Block}
 use Rattle.frag_tree.specs.declared.block.Module.TheOpen.{Block-F, Module-F}
@@ -9,6 +9,14 @@ use Rattle.frag_tree.specs.declared.block.Module.{Module}
 use Rattle.frag_tree.specs.declared.block.StructField.{StructField}
 use Rattle.frag_tree.specs.declared.krate.Crate.{Crate}
 use Rattle.frag_tree.specs.declared.krate.Slot.{Slot}
+use Rattle.frag_tree.specs.declared.krate.Version.{Version}
+use Rattle.frag_tree.specs.declared.krate.Version.TheVariants.{One, Two}
+use Rattle.frag_tree.specs.declared.register.ReadForm.{ReadForm}
+use Rattle.frag_tree.specs.declared.register.ReadForm.TheVariants as read
+use Rattle.frag_tree.specs.declared.register.Spot.{Spot}
+use Rattle.frag_tree.specs.declared.register.Spot.TheVariants.{Fixed, Indexed}
+use Rattle.frag_tree.specs.declared.register.WriteForm.{WriteForm}
+use Rattle.frag_tree.specs.declared.register.WriteForm.TheVariants as write
 use Rattle.frag_tree.specs.declared.register.RegisterModule.{RegisterModule}
 
 -- a block module without the modules inside it
@@ -33,8 +41,9 @@ pub data ModuleTree : Type 0 where
   one_register : RegisterModule → ModuleTree
   one_block : BlockTree → ModuleTree
 
--- a crate: its slots and its block modules
+-- a crate: the form of its text, its slots and its block modules
 pub record CrateTree : Type 0 where
+  pub version : Version
   pub slots : List Slot
   pub blocks : List BlockTree
 
@@ -65,4 +74,24 @@ module_tree = fold-Module ModuleTree BlockTree module_layer block_layer
 
 -- the pure tree of a crate
 unfoldable pub crate_tree : Crate → CrateTree
-crate_tree krate = record { slots = krate.slots; blocks = map block_tree krate.blocks.items }
+crate_tree krate = record { version = krate.version; slots = krate.slots; blocks = map block_tree krate.blocks.items }
+
+-- fields that take an index are of version 2
+abbrev pub takes_index : Version → Bool
+takes_index One = false
+takes_index Two = true
+
+-- the field lies at `at_bit(..)`
+abbrev pub is_indexed : Spot → Bool
+is_indexed (Fixed place) = false
+is_indexed (Indexed offset step count) = true
+
+-- where the field lies that is read
+abbrev pub spot_read : ReadForm → Spot
+spot_read (read.Bit spot mask) = spot
+spot_read (read.Field bits spot mask) = spot
+
+-- where the field lies that is written
+abbrev pub spot_written : WriteForm → Spot
+spot_written (write.Bit kind spot) = spot
+spot_written (write.Field bits wide spot) = spot

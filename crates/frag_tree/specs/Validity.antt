@@ -1,4 +1,4 @@
--- Which trees are valid: each name is an identifier, and each number is below 2^64. The trees that code builds are.
+-- Which trees are valid: each name is an identifier, each number is below 2^64, and in version 1 no spot is indexed. Of the trees that code builds the names and numbers are.
 use Rattle.std.specs.Prelude.{ℕ, ◌^◌, Bool, true, ◌&&◌, Option, Some, None, nat_lt}
 use Rattle.std.specs.List.{list_all}
 use Rattle.frag_tree.specs.declared.access.Access.{Access}
@@ -10,12 +10,15 @@ use Rattle.frag_tree.specs.declared.block.FieldType.{FieldType}
 use Rattle.frag_tree.specs.declared.block.FieldType.TheVariants as holds
 use Rattle.frag_tree.specs.declared.block.StructField.{StructField}
 use Rattle.frag_tree.specs.declared.krate.Slot.{Slot}
+use Rattle.frag_tree.specs.declared.krate.Version.{Version}
 use Rattle.frag_tree.specs.declared.register.Constant.{Constant}
 use Rattle.frag_tree.specs.declared.register.NumberCall.{NumberCall}
 use Rattle.frag_tree.specs.declared.register.ReadForm.{ReadForm}
 use Rattle.frag_tree.specs.declared.register.ReadForm.TheVariants as read
 use Rattle.frag_tree.specs.declared.register.Reader.{Reader}
 use Rattle.frag_tree.specs.declared.register.RegisterModule.{RegisterModule}
+use Rattle.frag_tree.specs.declared.register.Spot.{Spot}
+use Rattle.frag_tree.specs.declared.register.Spot.TheVariants.{Fixed, Indexed}
 use Rattle.frag_tree.specs.declared.register.TruthCall.{TruthCall}
 use Rattle.frag_tree.specs.declared.register.Values.{Values}
 use Rattle.frag_tree.specs.declared.register.Values.TheVariants as values
@@ -24,7 +27,7 @@ use Rattle.frag_tree.specs.declared.register.WriteForm.{WriteForm}
 use Rattle.frag_tree.specs.declared.register.WriteForm.TheVariants as write
 use Rattle.frag_tree.specs.declared.register.Writer.{Writer}
 use Rattle.frag_tree.specs.Identifiers.{is_identifier}
-use Rattle.frag_tree.specs.Trees.{BlockHead, BlockTree, CrateTree, Modules, ended, register, block}
+use Rattle.frag_tree.specs.Trees.{BlockHead, BlockTree, CrateTree, Modules, ended, register, block, spot_read, spot_written, takes_index}
 
 -- below 2^64
 abbrev pub is_number : ℕ → Bool
@@ -60,19 +63,28 @@ valid_constant constant = is_number constant.value
 abbrev pub valid_writable : Writable → Bool
 valid_writable masks = valid_constant masks.zero_to_modify && valid_constant masks.one_to_modify
 
-abbrev pub valid_read : ReadForm → Bool
-valid_read (read.Bit shift mask) = is_number shift && is_number mask
-valid_read (read.Field bits shift mask) = is_number shift && is_number mask
+abbrev pub valid_spot : Spot → Bool
+valid_spot (Fixed place) = is_number place
+valid_spot (Indexed offset step count) = is_number offset && (is_number step && is_number count)
 
-abbrev pub valid_reader : Reader → Bool
-valid_reader reader = is_identifier reader.name && (is_identifier reader.marker && valid_read reader.form)
+-- in version 1 every spot is a number
+abbrev pub stands_in : Version → Spot → Bool
+stands_in version (Fixed place) = true
+stands_in version (Indexed offset step count) = takes_index version
+
+abbrev pub valid_read : ReadForm → Bool
+valid_read (read.Bit spot mask) = valid_spot spot && is_number mask
+valid_read (read.Field bits spot mask) = valid_spot spot && is_number mask
+
+abbrev pub valid_reader : Version → Reader → Bool
+valid_reader version reader = stands_in version (spot_read reader.form) && (is_identifier reader.name && (is_identifier reader.marker && valid_read reader.form))
 
 abbrev pub valid_write : WriteForm → Bool
-valid_write (write.Bit kind offset) = is_number offset
-valid_write (write.Field bits wide offset) = is_number wide && is_number offset
+valid_write (write.Bit kind spot) = valid_spot spot
+valid_write (write.Field bits wide spot) = is_number wide && valid_spot spot
 
-abbrev pub valid_writer : Writer → Bool
-valid_writer writer = is_identifier writer.name && (is_identifier writer.marker && valid_write writer.form)
+abbrev pub valid_writer : Version → Writer → Bool
+valid_writer version writer = stands_in version (spot_written writer.form) && (is_identifier writer.name && (is_identifier writer.marker && valid_write writer.form))
 
 abbrev pub valid_truth : TruthCall → Bool
 valid_truth call = is_identifier call.name
@@ -90,20 +102,20 @@ abbrev pub valid_option : {A : Type 0} → (A → Bool) → Option A → Bool
 valid_option valid None = true
 valid_option valid (Some part) = valid part
 
-unfoldable pub valid_register : RegisterModule → Bool
-valid_register unit =
-    is_identifier unit.name && (valid_option valid_writable unit.writable && (valid_constant unit.reset && (list_all is_identifier unit.markers && (valid_option (list_all valid_reader) unit.readers && (valid_option (list_all valid_writer) unit.writers && list_all valid_values unit.values)))))
+unfoldable pub valid_register : Version → RegisterModule → Bool
+valid_register version unit =
+    is_identifier unit.name && (valid_option valid_writable unit.writable && (valid_constant unit.reset && (list_all is_identifier unit.markers && (valid_option (list_all (valid_reader version)) unit.readers && (valid_option (list_all (valid_writer version)) unit.writers && list_all valid_values unit.values)))))
 
 abbrev pub valid_head : BlockHead → Bool
 valid_head head = is_identifier head.name && (list_all valid_field head.fields && list_all valid_access head.accessors)
 
-unfoldable pub valid_modules : Modules → Bool
-valid_modules ended = true
-valid_modules (register unit others) = valid_register unit && valid_modules others
-valid_modules (block head inside others) = valid_head head && (valid_modules inside && valid_modules others)
+unfoldable pub valid_modules : Version → Modules → Bool
+valid_modules version ended = true
+valid_modules version (register unit others) = valid_register version unit && valid_modules version others
+valid_modules version (block head inside others) = valid_head head && (valid_modules version inside && valid_modules version others)
 
-abbrev pub valid_block : BlockTree → Bool
-valid_block unit = valid_head unit.head && valid_modules unit.inside
+abbrev pub valid_block : Version → BlockTree → Bool
+valid_block version unit = valid_head unit.head && valid_modules version unit.inside
 
 abbrev pub valid_crate : CrateTree → Bool
-valid_crate krate = list_all valid_slot krate.slots && list_all valid_block krate.blocks
+valid_crate krate = list_all valid_slot krate.slots && list_all (valid_block krate.version) krate.blocks

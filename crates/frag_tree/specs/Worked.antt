@@ -9,6 +9,8 @@ use Rattle.frag_tree.specs.declared.register.BitKind.TheVariants as kind
 use Rattle.frag_tree.specs.declared.register.Constant.{Constant}
 use Rattle.frag_tree.specs.declared.register.ReadForm.TheVariants as read
 use Rattle.frag_tree.specs.declared.register.RegisterModule.{RegisterModule}
+use Rattle.frag_tree.specs.declared.krate.Version.TheVariants.{One, Two}
+use Rattle.frag_tree.specs.declared.register.Spot.TheVariants.{Fixed, Indexed}
 use Rattle.frag_tree.specs.declared.register.Values.TheVariants as values
 use Rattle.frag_tree.specs.declared.register.WriteForm.TheVariants as write
 use Rattle.frag_tree.specs.Blocks.{modules_lines, opening_lines, field_line, access_line}
@@ -31,11 +33,11 @@ status_register = record {
   reset = constant 3;
   markers = codes "F0_F" ∷ codes "F1_F" ∷ [];
   readers = Some (
-      record { name = codes "f0"; marker = codes "F0_F"; form = read.Bit 0 1 } ∷
-      record { name = codes "f1"; marker = codes "F1_F"; form = read.Bit 1 1 } ∷ []);
+      record { name = codes "f0"; marker = codes "F0_F"; form = read.Bit (Fixed 0) 1 } ∷
+      record { name = codes "f1"; marker = codes "F1_F"; form = read.Bit (Fixed 1) 1 } ∷ []);
   writers = Some (
-      record { name = codes "f0"; marker = codes "F0_F"; form = write.Bit kind.OneToClear 0 } ∷
-      record { name = codes "f1"; marker = codes "F1_F"; form = write.Bit kind.Plain 1 } ∷ []);
+      record { name = codes "f0"; marker = codes "F0_F"; form = write.Bit kind.OneToClear (Fixed 0) } ∷
+      record { name = codes "f1"; marker = codes "F1_F"; form = write.Bit kind.Plain (Fixed 1) } ∷ []);
   values = [];
 }
 
@@ -51,6 +53,7 @@ timer_block = record {
 
 abbrev pub example : CrateTree
 example = record {
+  version = One;
   slots = record { name = codes "T"; block = codes "t"; address = 0x40000000 } ∷ [];
   blocks = timer_block ∷ [];
 }
@@ -120,11 +123,25 @@ printed-accessors = refl
 -- The calls of a field of three bits.
 pub printed-mode :
     lines_text (
-    reader_line 0 (record { name = codes "mode"; marker = codes "MODE_F"; form = read.Field W8 4 7 }) ∷
-    writer_line 0 (record { name = codes "mode"; marker = codes "MODE_F"; form = write.Field W8 3 4 }) ∷ [])
+    reader_line 0 (record { name = codes "mode"; marker = codes "MODE_F"; form = read.Field W8 (Fixed 4) 7 }) ∷
+    writer_line 0 (record { name = codes "mode"; marker = codes "MODE_F"; form = write.Field W8 3 (Fixed 4) }) ∷ [])
     ≡ codes "pub fn mode(&self) -> FieldReader<MODE_F, u8> { FieldReader::new(((self.bits >> 4) & 0x7) as u8) }\n" ++ codes "pub fn mode(&mut self) -> FieldWriter<'_, Spec, MODE_F, u8, 3> { FieldWriter::new(self, 4) }\n"
 unfolding line_text digits
 printed-mode = refl
+
+-- The calls of indexed fields: eight of one bit, and four of two bits.
+pub printed-indexed :
+    lines_text (
+    reader_line 0 (record { name = codes "ch"; marker = codes "CH_F"; form = read.Bit (Indexed 0 4 8) 1 }) ∷
+    reader_line 0 (record { name = codes "lv"; marker = codes "LV_F"; form = read.Field W8 (Indexed 0 8 4) 3 }) ∷
+    writer_line 0 (record { name = codes "ch"; marker = codes "CH_F"; form = write.Bit kind.Plain (Indexed 0 4 8) }) ∷
+    writer_line 0 (record { name = codes "lv"; marker = codes "LV_F"; form = write.Field W8 2 (Indexed 0 8 4) }) ∷ [])
+    ≡ codes "pub fn ch(&self, n: usize) -> BitReader<CH_F> { BitReader::new(((self.bits >> at_bit(0, 4, 8, n)) & 0x1) != 0x0) }\n" ++
+    (codes "pub fn lv(&self, n: usize) -> FieldReader<LV_F, u8> { FieldReader::new(((self.bits >> at_bit(0, 8, 4, n)) & 0x3) as u8) }\n" ++
+    (codes "pub fn ch(&mut self, n: usize) -> BitWriter<'_, Spec, CH_F> { BitWriter::new(self, at_bit(0, 4, 8, n)) }\n" ++
+    codes "pub fn lv(&mut self, n: usize) -> FieldWriter<'_, Spec, LV_F, u8, 2> { FieldWriter::new(self, at_bit(0, 8, 4, n)) }\n"))
+unfolding line_text digits
+printed-indexed = refl
 
 -- The blocks of values, and one without a call.
 pub printed-values :
@@ -143,9 +160,14 @@ unfolding line_text digits
 printed-values = refl
 
 -- A crate without slots.
-pub printed-nothing : printed (record { slots = []; blocks = [] }) ≡ codes "use crate::generic::*;\n\npub struct Peripherals {\n}\n"
+pub printed-nothing : printed (record { version = One; slots = []; blocks = [] }) ≡ codes "use crate::generic::*;\n\npub struct Peripherals {\n}\n"
 unfolding crate_lines line_text
 printed-nothing = refl
+
+-- A crate of version 2 without slots.
+pub printed-version : printed (record { version = Two; slots = []; blocks = [] }) ≡ codes "pub const CRATE_TEXT: u32 = 0x2;\nuse crate::generic::*;\n\npub struct Peripherals {\n}\n"
+unfolding crate_lines line_text
+printed-version = refl
 
 -- A text with blanks and a comment has the words of the printed line.
 pub words-example : words_in (codes "pub\tT :Periph // >>\r\n  < t::RegisterBlock,0x40000000> ,//") ≡ line_words (slot_line 1 (record { name = codes "T"; block = codes "t"; address = 0x40000000 }))

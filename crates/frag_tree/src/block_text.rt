@@ -1,11 +1,12 @@
 ghost use Rattle.std.specs.Prelude.{◌≡◌, ◌+◌, ◌++◌, OnOk, map};
 ghost use Rattle.std.specs.List.{flat_map};
 ghost use Rattle.frag_words.specs.Lines.{line_text, lines_text, piece_text};
-ghost use Rattle.frag_tree.specs.Blocks.{access_line, accessor_lines, array_pieces, body_pieces, element_pieces, field_line, index_text, struct_lines, type_pieces};
+ghost use Rattle.frag_tree.specs.Blocks.{access_line, accessor_lines, array_pieces, body_pieces, element_pieces, field_line, struct_lines, type_pieces};
 
 use crate::access::{Access, Body};
 use crate::block::{Element, FieldType, StructField};
 use crate::line::{OneLine, Part, deeper, push_each, push_indent, push_line, push_parts};
+use crate::phrase::{Phrase, receiver};
 use pac_base::NoMemory;
 use pac_io::Page;
 
@@ -17,10 +18,10 @@ pub(crate) fn push_struct(
 ) -> Result<(), NoMemory>
     ensures { OnOk result (page.new ≡ page.old ++ lines_text (struct_lines depth fields.now)) }
 {
-    push_line(page, depth, &[Part::Text("#[repr(C)]")])?;
-    push_line(page, depth, &[Part::Text("pub struct RegisterBlock {")])?;
+    push_line(page, depth, &[Part::Text(Phrase::ReprC)])?;
+    push_line(page, depth, &[Part::Text(Phrase::OpensStruct)])?;
     push_each(page, deeper(depth)?, fields)?;
-    push_line(page, depth, &[Part::Text("}")])
+    push_line(page, depth, &[Part::Text(Phrase::Closer)])
 }
 
 /// Appends the accessors of a block.
@@ -31,9 +32,9 @@ pub(crate) fn push_accessors(
 ) -> Result<(), NoMemory>
     ensures { OnOk result (page.new ≡ page.old ++ lines_text (accessor_lines depth accessors.now)) }
 {
-    push_line(page, depth, &[Part::Text("impl RegisterBlock {")])?;
+    push_line(page, depth, &[Part::Text(Phrase::BlockImpl)])?;
     push_each(page, deeper(depth)?, accessors)?;
-    push_line(page, depth, &[Part::Text("}")])
+    push_line(page, depth, &[Part::Text(Phrase::Closer)])
 }
 
 impl OneLine for StructField {
@@ -42,9 +43,10 @@ impl OneLine for StructField {
     #[tactic(auto, using(crate::proofs::Printed::joined), unfolding(frag_words::specs::Lines::line_text))]
     fn push_onto(&self, page: &mut Page, depth: usize) -> Result<(), NoMemory> {
         push_indent(page, depth)?;
-        push_parts(page, &[Part::Name(&self.name), Part::Text(": ")])?;
+        push_parts(page, &[Part::Name(&self.name), Part::Text(Phrase::Colon)])?;
         push_type(page, &self.holds)?;
-        page.push(b",\n")
+        page.push(Phrase::Comma.text())?;
+        page.push(b"\n")
     }
 }
 
@@ -57,25 +59,16 @@ impl OneLine for Access {
         push_parts(
             page,
             &[
-                Part::Text("pub fn "),
+                Part::Text(Phrase::PubFn),
                 Part::Name(&self.name),
-                Part::Text(index_text(self.is_indexed)),
+                Part::Text(receiver(self.is_indexed)),
+                Part::Text(Phrase::Reference),
             ],
         )?;
         push_element(page, &self.element)?;
-        page.push(b" { ")?;
+        page.push(Phrase::OpensBody.text())?;
         push_body(page, &self.body)?;
-        page.push(b" }\n")
-    }
-}
-
-fn index_text(is_indexed: bool) -> &'static str
-    ensures { result.now ≡ index_text is_indexed }
-{
-    if is_indexed {
-        "(&self, n: usize) -> &"
-    } else {
-        "(&self) -> &"
+        page.push(b"\n")
     }
 }
 
@@ -89,7 +82,11 @@ fn push_type(page: &mut Page, holds: &FieldType) -> Result<(), NoMemory>
         FieldType::Gap { bytes } => {
             push_parts(
                 page,
-                &[Part::Text("[u8; "), Part::Decimal(*bytes), Part::Text("]")],
+                &[
+                    Part::Text(Phrase::OpensGap),
+                    Part::Decimal(*bytes),
+                    Part::Text(Phrase::ClosesArray),
+                ],
             )
         }
     }
@@ -99,11 +96,15 @@ fn push_type(page: &mut Page, holds: &FieldType) -> Result<(), NoMemory>
 fn push_array(page: &mut Page, element: &Element, count: u64) -> Result<(), NoMemory>
     ensures { OnOk result (page.new ≡ page.old ++ flat_map piece_text (array_pieces element.now count)) }
 {
-    page.push(b"[")?;
+    page.push(Phrase::OpensArray.text())?;
     push_element(page, element)?;
     push_parts(
         page,
-        &[Part::Text("; "), Part::Decimal(count), Part::Text("]")],
+        &[
+            Part::Text(Phrase::Semicolon),
+            Part::Decimal(count),
+            Part::Text(Phrase::ClosesArray),
+        ],
     )
 }
 
@@ -115,14 +116,14 @@ fn push_element(page: &mut Page, element: &Element) -> Result<(), NoMemory>
             push_parts(
                 page,
                 &[
-                    Part::Text("Reg<"),
+                    Part::Text(Phrase::OpensReg),
                     Part::Name(module),
-                    Part::Text("::Spec>"),
+                    Part::Text(Phrase::ClosesReg),
                 ],
             )
         }
         Element::Block { module } => {
-            push_parts(page, &[Part::Name(module), Part::Text("::RegisterBlock")])
+            push_parts(page, &[Part::Name(module), Part::Text(Phrase::OfBlock)])
         }
     }
 }
@@ -131,20 +132,33 @@ fn push_body(page: &mut Page, body: &Body) -> Result<(), NoMemory>
     ensures { OnOk result (page.new ≡ page.old ++ flat_map piece_text (body_pieces body.now)) }
 {
     match body {
-        Body::Field { field } => push_parts(page, &[Part::Text("&self."), Part::Name(field)]),
+        Body::Field { field } => {
+            push_parts(
+                page,
+                &[
+                    Part::Text(Phrase::FieldOfSelf),
+                    Part::Name(field),
+                    Part::Text(Phrase::ClosesBody),
+                ],
+            )
+        }
         Body::Member { field } => {
             push_parts(
                 page,
-                &[Part::Text("&self."), Part::Name(field), Part::Text("[n]")],
+                &[
+                    Part::Text(Phrase::FieldOfSelf),
+                    Part::Name(field),
+                    Part::Text(Phrase::ClosesMember),
+                ],
             )
         }
         Body::At { offset } => {
             push_parts(
                 page,
                 &[
-                    Part::Text("at(self, "),
+                    Part::Text(Phrase::OpensAt),
                     Part::Hexadecimal(*offset),
-                    Part::Text(")"),
+                    Part::Text(Phrase::ClosesCall),
                 ],
             )
         }
@@ -156,13 +170,13 @@ fn push_body(page: &mut Page, body: &Body) -> Result<(), NoMemory>
             push_parts(
                 page,
                 &[
-                    Part::Text("at_index(self, "),
+                    Part::Text(Phrase::OpensAtIndex),
                     Part::Hexadecimal(*offset),
-                    Part::Text(", "),
+                    Part::Text(Phrase::ThenNext),
                     Part::Decimal(*stride),
-                    Part::Text(", "),
+                    Part::Text(Phrase::ThenNext),
                     Part::Decimal(*count),
-                    Part::Text(", n)"),
+                    Part::Text(Phrase::ClosesAtIndex),
                 ],
             )
         }

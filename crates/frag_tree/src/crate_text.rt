@@ -3,13 +3,14 @@ ghost use Rattle.std.specs.List.{flat_map};
 ghost use Rattle.frag_words.specs.Lines.{line, line_text, lines_text};
 ghost use Rattle.pac_io.specs.Writing.{Writes, WritesUpTo, SinkCause};
 ghost use Rattle.frag_tree.specs.Blocks.{block_tree_lines, module_lines, module_opening, modules_lines, opening_lines};
-ghost use Rattle.frag_tree.specs.Crates.{printed, slot_line, slots_lines, top_lines};
+ghost use Rattle.frag_tree.specs.Crates.{printed, slot_line, slots_lines, top_lines, version_lines};
 ghost use Rattle.frag_tree.specs.Trees.{block_tree, crate_tree, in_line, module_tree};
 
 use crate::block::{Block, Module};
 use crate::block_text::{push_accessors, push_struct};
-use crate::krate::{Crate, Slot};
-use crate::line::{OneLine, Part, deeper, push_each, push_line};
+use crate::krate::{Crate, Slot, Version};
+use crate::line::{OneLine, Part, deeper, push_each, push_fixed, push_line};
+use crate::phrase::Phrase;
 use crate::register_text::push_register;
 use pac_base::NoMemory;
 use pac_io::{Page, Sink, SinkFault};
@@ -22,20 +23,31 @@ pub fn print_crate<S: Sink>(alloc: Global, krate: &Crate, sink: &mut S) -> Resul
     ensures cause { SinkCause result (S.faults sink.old) (S.faults sink.new) }
 {
     let mut page = Page::new(alloc);
+    push_version(&mut page, krate.version)?;
     push_slots(&mut page, krate.slots.as_slice())?;
     print_blocks(&krate.blocks, &mut page, sink)?;
     page.finish(sink)
+}
+
+/// Appends the line of the version, where it has one.
+fn push_version(page: &mut Page, version: Version) -> Result<(), NoMemory>
+    ensures { OnOk result (page.new ≡ page.old ++ lines_text (version_lines version)) }
+{
+    match version {
+        Version::One => Ok(()),
+        Version::Two => push_line(page, 0, &[Part::Text(Phrase::VersionTwo)]),
+    }
 }
 
 /// Appends the prelude and the slots.
 fn push_slots(page: &mut Page, slots: &[Slot]) -> Result<(), NoMemory>
     ensures { OnOk result (page.new ≡ page.old ++ lines_text (slots_lines slots.now)) }
 {
-    push_line(page, 0, &[Part::Text("use crate::generic::*;")])?;
+    push_line(page, 0, &[Part::Text(Phrase::UsePrelude)])?;
     push_line(page, 0, &[])?;
-    push_line(page, 0, &[Part::Text("pub struct Peripherals {")])?;
+    push_line(page, 0, &[Part::Text(Phrase::OpensPeripherals)])?;
     push_each(page, 1, slots)?;
-    push_line(page, 0, &[Part::Text("}")])
+    push_line(page, 0, &[Part::Text(Phrase::Closer)])
 }
 
 impl OneLine for Slot {
@@ -46,13 +58,13 @@ impl OneLine for Slot {
             page,
             depth,
             &[
-                Part::Text("pub "),
+                Part::Text(Phrase::Pub),
                 Part::Name(&self.name),
-                Part::Text(": Periph<"),
+                Part::Text(Phrase::OpensPeriph),
                 Part::Name(&self.block),
-                Part::Text("::RegisterBlock, "),
+                Part::Text(Phrase::BlockThenNext),
                 Part::Hexadecimal(self.address),
-                Part::Text(">,"),
+                Part::Text(Phrase::ClosesSlot),
             ],
         )
     }
@@ -89,7 +101,7 @@ fn print_block<S: Sink>(
 {
     push_opening(block, depth, page)?;
     print_modules(&block.modules, deeper(depth)?, page, sink)?;
-    push_line(page, depth, &[Part::Text("}")])?;
+    push_line(page, depth, &[Part::Text(Phrase::Closer)])?;
     page.turn(sink)
 }
 
@@ -136,13 +148,13 @@ fn push_opening(block: &Block, depth: usize, page: &mut Page) -> Result<(), NoMe
         page,
         depth,
         &[
-            Part::Text("pub mod "),
+            Part::Text(Phrase::PubMod),
             Part::Name(&block.name),
-            Part::Text(" {"),
+            Part::Text(Phrase::OpensModule),
         ],
     )?;
     let inner = deeper(depth)?;
-    push_line(page, inner, &[Part::Text("use crate::generic::*;")])?;
+    push_fixed(page, inner, Phrase::UsePrelude)?;
     push_struct(page, inner, block.fields.as_slice())?;
     push_accessors(page, inner, block.accessors.as_slice())
 }

@@ -1,11 +1,37 @@
+ghost use Rattle.std.specs.Prelude.{◌≡◌};
+ghost use Rattle.frag_tree.specs.Trees.{takes_index};
+
 use crate::block::Block;
 use crate::identifier::Identifier;
 use pac_base::Seq;
 
+/// The two forms of a crate text.
+#[derive(Clone, Copy)]
+pub enum Version {
+    /// No field takes an index.
+    One,
+    /// The text begins with `pub const CRATE_TEXT: u32 = 0x2;`, and readers and writers may take one.
+    Two,
+}
+
+impl Version {
+    /// Whether a call of a field may take an index.
+    pub fn takes_index(self) -> bool
+        ensures { result ≡ takes_index self }
+    {
+        match self {
+            Version::One => false,
+            Version::Two => true,
+        }
+    }
+}
+
 /// A crate: its slots, and a block module for each kind of peripheral
-/// (`Crate = use Slots Block*` of the crate text).
+/// (`Crate = version 1 or 2, use Slots Block*` of the crate text).
 #[derive(Drop)]
 pub struct Crate {
+    /// The form of its text. In a crate of version 1 no spot is indexed.
+    pub version: Version,
     /// The fields of `Peripherals`.
     pub slots: Seq<Slot>,
     /// The block modules at the top.

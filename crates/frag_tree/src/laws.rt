@@ -4,6 +4,7 @@ ghost use Rattle.frag_tree.specs.declared.block.Element.{Element};
 ghost use Rattle.frag_tree.specs.declared.block.FieldType.{FieldType};
 ghost use Rattle.frag_tree.specs.declared.block.StructField.{StructField};
 ghost use Rattle.frag_tree.specs.declared.krate.Slot.{Slot};
+ghost use Rattle.frag_tree.specs.declared.krate.Version.{Version};
 ghost use Rattle.frag_tree.specs.declared.register.Reader.{Reader};
 ghost use Rattle.frag_tree.specs.declared.register.RegisterModule.{RegisterModule};
 ghost use Rattle.frag_tree.specs.declared.register.Values.{Values};
@@ -23,13 +24,13 @@ pub fn words_law()
     ensures field_type { OneTree FieldType type_words valid_type }
     ensures field { OneTree StructField field_words valid_field }
     ensures access { OneTree Access access_words valid_access }
-    ensures reader { OneTree Reader reader_words valid_reader }
-    ensures writer { OneTree Writer writer_words valid_writer }
+    ensures reader { (version : Version) → OneTree Reader reader_words (valid_reader version) }
+    ensures writer { (version : Version) → OneTree Writer writer_words (valid_writer version) }
     ensures values { OneTree Values values_words valid_values }
-    ensures register { OneTree RegisterModule register_words valid_register }
-    ensures block { OneTree BlockTree block_words valid_block }
-    ensures module_tree { OneTree ModuleTree module_words valid_module }
-    ensures modules { OneTree Modules modules_words valid_modules }
+    ensures register { (version : Version) → OneTree RegisterModule register_words (valid_register version) }
+    ensures block { (version : Version) → OneTree BlockTree block_words (valid_block version) }
+    ensures module_tree { (version : Version) → OneTree ModuleTree module_words (valid_module version) }
+    ensures modules { (version : Version) → OneTree Modules modules_words (valid_modules version) }
 {}
 
 /// The readers of the productions read what was printed, and what they read has the words of the
@@ -40,13 +41,13 @@ pub fn readings_law()
     ensures field_type { IsExact FieldType type_reading }
     ensures field { IsExact StructField field_reading }
     ensures access { IsExact Access access_reading }
-    ensures reader { IsExact Reader reader_reading }
-    ensures writer { IsExact Writer writer_reading }
+    ensures reader { (version : Version) → IsExact Reader (reader_reading version) }
+    ensures writer { (version : Version) → IsExact Writer (writer_reading version) }
     ensures values { IsExact Values values_reading }
-    ensures register { IsExact RegisterModule register_reading }
-    ensures block { IsExact BlockTree block_reading }
-    ensures module_tree { IsExact ModuleTree module_reading }
-    ensures modules { IsExact Modules modules_reading }
+    ensures register { (version : Version) → IsExact RegisterModule (register_reading version) }
+    ensures block { (version : Version) → IsExact BlockTree (block_reading version) }
+    ensures module_tree { (version : Version) → IsExact ModuleTree (module_reading version) }
+    ensures modules { (version : Version) → IsExact Modules (modules_reading version) }
 {}
 
 /// The words of a printed crate are those of its productions, and at most one crate fits a text: the

@@ -11,6 +11,7 @@ mod identifier;
 mod krate;
 mod laws;
 mod line;
+mod phrase;
 mod register;
 mod register_text;
 mod script;
@@ -23,11 +24,13 @@ pub use block::{Block, Element, FieldType, Module, StructField};
 pub use crate_text::print_crate;
 pub use event::{Event, Events, Said};
 pub use identifier::{Identifier, IdentifierFault};
-pub use krate::{Crate, Slot};
+pub use krate::{Crate, Slot, Version};
 pub use laws::{crate_law, readings_law, words_law};
+pub use phrase::{Phrase, receiver, receiver_mut};
 pub use register::{
-    BitKind, Constant, NumberCall, ReadForm, Reader, RegisterModule, TruthCall, Values, Writable,
-    WriteForm, Writer,
+    BitKind, Constant, NumberCall, ReadForm, Reader, RegisterModule, Spot, TruthCall, Values,
+    Writable, WriteForm, Writer,
 };
 pub use script::{Script, ScriptLine};
-pub use statement::{Atom, Link, Place, PlaceStep, Source, Statement, Value};
+pub use statement::{Atom, Call, Link, Place, Source, Statement, Value};
+pub use word::{kind_word, truth_word, width_word};

@@ -1,10 +1,12 @@
 ghost use Rattle.std.specs.Prelude.{ℕ, ◌≡◌, ◌+◌, ◌++◌, IfOk, OnOk, map};
 ghost use Rattle.std.specs.List.{flat_map};
-ghost use Rattle.frag_words.specs.Lines.{Line, line, line_text, lines_text, piece_text};
+ghost use Rattle.frag_words.specs.Lines.{Line, fixed, line, line_text, lines_text, piece_text};
 ghost use Rattle.frag_tree.specs.Parts.{piece_of, spaces};
+ghost use Rattle.frag_tree.specs.Phrases.{text_of};
 ghost use Rattle.frag_tree.specs.Numerals.{hexadecimal_word};
 
 use crate::identifier::Identifier;
+use crate::phrase::Phrase;
 use crate::register::BitKind;
 use crate::word::{kind_word, truth_word, width_word};
 use pac_base::{NoMemory, Width};
@@ -14,7 +16,7 @@ use pac_io::Page;
 #[derive(Clone, Copy)]
 pub(crate) enum Part<'a> {
     /// A fixed text.
-    Text(&'a str),
+    Text(Phrase),
     /// A name.
     Name(&'a Identifier),
     /// A number, `0x` and lower-case digits.
@@ -63,6 +65,13 @@ pub(crate) fn push_line(page: &mut Page, depth: usize, parts: &[Part]) -> Result
     page.push(b"\n")
 }
 
+/// Appends a line of one fixed text.
+pub(crate) fn push_fixed(page: &mut Page, depth: usize, phrase: Phrase) -> Result<(), NoMemory>
+    ensures { OnOk result (page.new ≡ page.old ++ line_text (fixed depth (text_of phrase))) }
+{
+    push_line(page, depth, &[Part::Text(phrase)])
+}
+
 /// The depth within one more brace. Where there is no such number, memory could not hold the spaces.
 pub(crate) fn deeper(depth: usize) -> Result<usize, NoMemory>
     ensures { IfOk result (λ inner. inner ≡ depth + 1) }
@@ -94,7 +103,7 @@ fn push_part(page: &mut Page, part: Part) -> Result<(), NoMemory>
     ensures { OnOk result (page.new ≡ page.old ++ piece_text (piece_of part.entry)) }
 {
     match part {
-        Part::Text(text) => page.push(text.as_bytes()),
+        Part::Text(phrase) => page.push(phrase.text()),
         Part::Name(name) => page.push(name.bytes()),
         Part::Hexadecimal(number) => push_hexadecimal(page, number),
         Part::Decimal(number) => page.decimal(number),

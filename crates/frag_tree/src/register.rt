@@ -1,3 +1,6 @@
+ghost use Rattle.std.specs.Prelude.{◌≡◌};
+ghost use Rattle.frag_tree.specs.Trees.{is_indexed};
+
 use crate::identifier::Identifier;
 use pac_base::{Seq, Width};
 
@@ -42,7 +45,36 @@ pub struct Constant {
     pub value: u64,
 }
 
-/// A call that reads a field: `pub fn NAME(&self) -> READER { .. }`.
+/// Where a field lies in the word, in bits.
+#[derive(Drop)]
+pub enum Spot {
+    /// At this place.
+    Fixed(u64),
+    /// `at_bit(OFFSET, STEP, COUNT, n)`: so far, and as many steps as the index says.
+    Indexed {
+        /// How far the first member lies from the lowest bit.
+        offset: u64,
+        /// How far one member lies from the one before.
+        step: u64,
+        /// How many members there are.
+        count: u64,
+    },
+}
+
+impl Spot {
+    /// Whether a call of the field takes an index.
+    pub fn is_indexed(&self) -> bool
+        ensures { result ≡ is_indexed self.now }
+    {
+        match self {
+            Spot::Fixed(_) => false,
+            Spot::Indexed { .. } => true,
+        }
+    }
+}
+
+/// A call that reads a field: `pub fn NAME(&self) -> READER { .. }`, with `, n: usize` behind `&self`
+/// where the field lies at an indexed spot.
 #[derive(Drop)]
 pub struct Reader {
     /// The name of the call.
@@ -53,13 +85,13 @@ pub struct Reader {
     pub form: ReadForm,
 }
 
-/// How a field is taken out of a word. Shifts are in bits.
+/// How a field is taken out of a word.
 #[derive(Drop)]
 pub enum ReadForm {
     /// `BitReader`: whether the bits under the mask aren't 0.
     Bit {
         /// How far the word is shifted to the right.
-        shift: u64,
+        spot: Spot,
         /// Which bits are looked at then.
         mask: u64,
     },
@@ -68,13 +100,14 @@ pub enum ReadForm {
         /// The width of the number.
         width: Width,
         /// How far the word is shifted to the right.
-        shift: u64,
+        spot: Spot,
         /// Which bits are taken then.
         mask: u64,
     },
 }
 
-/// A call that writes a field: `pub fn NAME(&mut self) -> WRITER { .. }`.
+/// A call that writes a field: `pub fn NAME(&mut self) -> WRITER { .. }`, with `, n: usize` behind
+/// `&mut self` where the field lies at an indexed spot.
 #[derive(Drop)]
 pub struct Writer {
     /// The name of the call.
@@ -85,7 +118,7 @@ pub struct Writer {
     pub form: WriteForm,
 }
 
-/// How a field is put into a word. Offsets are in bits.
+/// How a field is put into a word.
 #[derive(Drop)]
 pub enum WriteForm {
     /// One of the writers of a bit.
@@ -93,7 +126,7 @@ pub enum WriteForm {
         /// Which writer.
         kind: BitKind,
         /// The place of the bit.
-        offset: u64,
+        spot: Spot,
     },
     /// `FieldWriter`: a number of this width goes into so many bits.
     Field {
@@ -102,7 +135,7 @@ pub enum WriteForm {
         /// How many bits the field has.
         bits: u64,
         /// The place of the lowest bit.
-        offset: u64,
+        spot: Spot,
     },
 }
 

@@ -1,10 +1,16 @@
 ghost use Rattle.std.specs.Prelude.{◌≡◌, ◌+◌, ◌++◌, OnOk, map};
-ghost use Rattle.frag_words.specs.Lines.{line_text, lines_text};
-ghost use Rattle.frag_tree.specs.Registers.{head_lines, marker_line, part_lines, readable_lines, reader_line, readers_lines, register_lines, reset_line, writable_line, writable_lines, writer_line, writers_lines};
+ghost use Rattle.std.specs.List.{flat_map};
+ghost use Rattle.frag_words.specs.Lines.{line, line_text, lines_text, piece_text};
+ghost use Rattle.frag_tree.specs.Parts.{piece_of};
+ghost use Rattle.frag_tree.specs.Registers.{head_lines, marker_line, part_lines, readable_lines, reader_line, readers_lines, register_lines, reset_line, spot_pieces, writable_line, writable_lines, writer_line, writers_lines};
 
 use crate::identifier::Identifier;
-use crate::line::{OneLine, Part, deeper, push_each, push_line};
-use crate::register::{Constant, ReadForm, Reader, RegisterModule, Writable, WriteForm, Writer};
+use crate::line;
+use crate::line::{OneLine, Part, deeper, push_each, push_indent, push_line};
+use crate::phrase::{Phrase, receiver, receiver_mut};
+use crate::register::{
+    Constant, ReadForm, Reader, RegisterModule, Spot, Writable, WriteForm, Writer,
+};
 use crate::values_text::push_all_values;
 use pac_base::{NoMemory, Seq};
 use pac_io::Page;
@@ -22,13 +28,13 @@ pub(crate) fn push_register(
         page,
         depth,
         &[
-            Part::Text("pub mod "),
+            Part::Text(Phrase::PubMod),
             Part::Name(&register.name),
-            Part::Text(" {"),
+            Part::Text(Phrase::OpensModule),
         ],
     )?;
     push_parts(page, deeper(depth)?, register)?;
-    push_line(page, depth, &[Part::Text("}")])
+    push_line(page, depth, &[Part::Text(Phrase::Closer)])
 }
 
 fn push_parts(page: &mut Page, depth: usize, register: &RegisterModule) -> Result<(), NoMemory>
@@ -47,15 +53,15 @@ fn push_parts(page: &mut Page, depth: usize, register: &RegisterModule) -> Resul
 fn push_head(page: &mut Page, depth: usize, register: &RegisterModule) -> Result<(), NoMemory>
     ensures { OnOk result (page.new ≡ page.old ++ lines_text (head_lines depth register.now)) }
 {
-    push_line(page, depth, &[Part::Text("use crate::generic::*;")])?;
-    push_line(page, depth, &[Part::Text("pub struct Spec;")])?;
+    push_line(page, depth, &[Part::Text(Phrase::UsePrelude)])?;
+    push_line(page, depth, &[Part::Text(Phrase::SpecStruct)])?;
     push_line(
         page,
         depth,
         &[
-            Part::Text("impl RegisterSpec for Spec { type Ux = "),
+            Part::Text(Phrase::OpensSpec),
             Part::Width(register.word),
-            Part::Text("; }"),
+            Part::Text(Phrase::ClosesSpec),
         ],
     )
 }
@@ -64,7 +70,7 @@ fn push_readable(page: &mut Page, depth: usize, readable: bool) -> Result<(), No
     ensures { OnOk result (page.new ≡ page.old ++ lines_text (readable_lines depth readable)) }
 {
     if readable {
-        push_line(page, depth, &[Part::Text("impl Readable for Spec {}")])?;
+        push_line(page, depth, &[Part::Text(Phrase::ReadableImpl)])?;
     }
     Ok(())
 }
@@ -85,18 +91,18 @@ fn push_masks(page: &mut Page, depth: usize, masks: &Writable) -> Result<(), NoM
         page,
         depth,
         &[
-            Part::Text("impl Writable for Spec { "),
-            Part::Text("const ZERO_TO_MODIFY: "),
+            Part::Text(Phrase::WritableImpl),
+            Part::Text(Phrase::ZeroToModify),
             Part::Width(masks.zero_to_modify.width),
-            Part::Text(" = "),
+            Part::Text(Phrase::Equals),
             Part::Hexadecimal(masks.zero_to_modify.value),
-            Part::Text("; "),
-            Part::Text("const ONE_TO_MODIFY: "),
+            Part::Text(Phrase::Semicolon),
+            Part::Text(Phrase::OneToModify),
             Part::Width(masks.one_to_modify.width),
-            Part::Text(" = "),
+            Part::Text(Phrase::Equals),
             Part::Hexadecimal(masks.one_to_modify.value),
-            Part::Text("; "),
-            Part::Text("}"),
+            Part::Text(Phrase::Semicolon),
+            Part::Text(Phrase::Closer),
         ],
     )
 }
@@ -108,13 +114,13 @@ fn push_reset(page: &mut Page, depth: usize, reset: &Constant) -> Result<(), NoM
         page,
         depth,
         &[
-            Part::Text("impl Resettable for Spec { "),
-            Part::Text("const RESET_VALUE: "),
+            Part::Text(Phrase::ResettableImpl),
+            Part::Text(Phrase::ResetValue),
             Part::Width(reset.width),
-            Part::Text(" = "),
+            Part::Text(Phrase::Equals),
             Part::Hexadecimal(reset.value),
-            Part::Text("; "),
-            Part::Text("}"),
+            Part::Text(Phrase::Semicolon),
+            Part::Text(Phrase::Closer),
         ],
     )
 }
@@ -135,9 +141,9 @@ fn push_marker(page: &mut Page, depth: usize, marker: &Identifier) -> Result<(),
         page,
         depth,
         &[
-            Part::Text("pub struct "),
+            Part::Text(Phrase::PubStruct),
             Part::Name(marker),
-            Part::Text(";"),
+            Part::Text(Phrase::ClosesMarker),
         ],
     )
 }
@@ -151,9 +157,9 @@ fn push_readers(
 {
     match readers {
         Some(readers) => {
-            push_line(page, depth, &[Part::Text("impl R<Spec> {")])?;
+            push_line(page, depth, &[Part::Text(Phrase::ReadersImpl)])?;
             push_each(page, deeper(depth)?, readers.as_slice())?;
-            push_line(page, depth, &[Part::Text("}")])
+            push_line(page, depth, &[Part::Text(Phrase::Closer)])
         }
         None => Ok(()),
     }
@@ -168,9 +174,9 @@ fn push_writers(
 {
     match writers {
         Some(writers) => {
-            push_line(page, depth, &[Part::Text("impl W<Spec> {")])?;
+            push_line(page, depth, &[Part::Text(Phrase::WritersImpl)])?;
             push_each(page, deeper(depth)?, writers.as_slice())?;
-            push_line(page, depth, &[Part::Text("}")])
+            push_line(page, depth, &[Part::Text(Phrase::Closer)])
         }
         None => Ok(()),
     }
@@ -183,43 +189,47 @@ impl OneLine for Reader {
         let name = Part::Name(&self.name);
         let marker = Part::Name(&self.marker);
         match &self.form {
-            ReadForm::Bit { shift, mask } => {
-                push_line(
+            ReadForm::Bit { spot, mask } => {
+                push_around(
                     page,
                     depth,
                     &[
-                        Part::Text("pub fn "),
+                        Part::Text(Phrase::PubFn),
                         name,
-                        Part::Text("(&self) -> "),
-                        Part::Text("BitReader<"),
+                        Part::Text(receiver(spot.is_indexed())),
+                        Part::Text(Phrase::OfBitReader),
                         marker,
-                        Part::Text("> { BitReader::new(((self.bits >> "),
-                        Part::Decimal(*shift),
-                        Part::Text(") & "),
+                        Part::Text(Phrase::NewBitReader),
+                    ],
+                    spot,
+                    &[
+                        Part::Text(Phrase::ThenMask),
                         Part::Hexadecimal(*mask),
-                        Part::Text(") != 0x0) }"),
+                        Part::Text(Phrase::ClosesBitReader),
                     ],
                 )
             }
-            ReadForm::Field { width, shift, mask } => {
-                push_line(
+            ReadForm::Field { width, spot, mask } => {
+                push_around(
                     page,
                     depth,
                     &[
-                        Part::Text("pub fn "),
+                        Part::Text(Phrase::PubFn),
                         name,
-                        Part::Text("(&self) -> "),
-                        Part::Text("FieldReader<"),
+                        Part::Text(receiver(spot.is_indexed())),
+                        Part::Text(Phrase::OfFieldReader),
                         marker,
-                        Part::Text(", "),
+                        Part::Text(Phrase::ThenNext),
                         Part::Width(*width),
-                        Part::Text("> { FieldReader::new(((self.bits >> "),
-                        Part::Decimal(*shift),
-                        Part::Text(") & "),
+                        Part::Text(Phrase::NewFieldReader),
+                    ],
+                    spot,
+                    &[
+                        Part::Text(Phrase::ThenMask),
                         Part::Hexadecimal(*mask),
-                        Part::Text(") as "),
+                        Part::Text(Phrase::ThenCast),
                         Part::Width(*width),
-                        Part::Text(") }"),
+                        Part::Text(Phrase::ClosesCall),
                     ],
                 )
             }
@@ -234,49 +244,89 @@ impl OneLine for Writer {
         let name = Part::Name(&self.name);
         let marker = Part::Name(&self.marker);
         match &self.form {
-            WriteForm::Bit { kind, offset } => {
-                push_line(
+            WriteForm::Bit { kind, spot } => {
+                push_around(
                     page,
                     depth,
                     &[
-                        Part::Text("pub fn "),
+                        Part::Text(Phrase::PubFn),
                         name,
-                        Part::Text("(&mut self) -> "),
+                        Part::Text(receiver_mut(spot.is_indexed())),
                         Part::Kind(*kind),
-                        Part::Text("<'_, Spec, "),
+                        Part::Text(Phrase::OfSpec),
                         marker,
-                        Part::Text("> { "),
+                        Part::Text(Phrase::ThenBody),
                         Part::Kind(*kind),
-                        Part::Text("::new(self, "),
-                        Part::Decimal(*offset),
-                        Part::Text(") }"),
+                        Part::Text(Phrase::NewOnSelf),
                     ],
+                    spot,
+                    &[Part::Text(Phrase::ClosesCall)],
                 )
             }
-            WriteForm::Field {
-                width,
-                bits,
-                offset,
-            } => {
-                push_line(
+            WriteForm::Field { width, bits, spot } => {
+                push_around(
                     page,
                     depth,
                     &[
-                        Part::Text("pub fn "),
+                        Part::Text(Phrase::PubFn),
                         name,
-                        Part::Text("(&mut self) -> "),
-                        Part::Text("FieldWriter<'_, Spec, "),
+                        Part::Text(receiver_mut(spot.is_indexed())),
+                        Part::Text(Phrase::OfFieldWriter),
                         marker,
-                        Part::Text(", "),
+                        Part::Text(Phrase::ThenNext),
                         Part::Width(*width),
-                        Part::Text(", "),
+                        Part::Text(Phrase::ThenNext),
                         Part::Decimal(*bits),
-                        Part::Text("> { FieldWriter::new(self, "),
-                        Part::Decimal(*offset),
-                        Part::Text(") }"),
+                        Part::Text(Phrase::NewFieldWriter),
                     ],
+                    spot,
+                    &[Part::Text(Phrase::ClosesCall)],
                 )
             }
+        }
+    }
+}
+
+/// Appends a line with a spot between its parts.
+#[tactic(auto, using(crate::proofs::Printed::joined), unfolding(frag_words::specs::Lines::line_text))]
+fn push_around(
+    page: &mut Page,
+    depth: usize,
+    before: &[Part],
+    spot: &Spot,
+    after: &[Part],
+) -> Result<(), NoMemory>
+    ensures { OnOk result (page.new ≡ page.old ++ line_text (line depth (map piece_of before.now ++ (spot_pieces spot.now ++ map piece_of after.now)))) }
+{
+    push_indent(page, depth)?;
+    line::push_parts(page, before)?;
+    push_spot(page, spot)?;
+    line::push_parts(page, after)?;
+    page.push(b"\n")
+}
+
+fn push_spot(page: &mut Page, spot: &Spot) -> Result<(), NoMemory>
+    ensures { OnOk result (page.new ≡ page.old ++ flat_map piece_text (spot_pieces spot.now)) }
+{
+    match spot {
+        Spot::Fixed(place) => line::push_parts(page, &[Part::Decimal(*place)]),
+        Spot::Indexed {
+            offset,
+            step,
+            count,
+        } => {
+            line::push_parts(
+                page,
+                &[
+                    Part::Text(Phrase::OpensAtBit),
+                    Part::Decimal(*offset),
+                    Part::Text(Phrase::ThenNext),
+                    Part::Decimal(*step),
+                    Part::Text(Phrase::ThenNext),
+                    Part::Decimal(*count),
+                    Part::Text(Phrase::ClosesAtBit),
+                ],
+            )
         }
     }
 }

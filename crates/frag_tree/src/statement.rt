@@ -52,13 +52,13 @@ pub struct Place {
     /// The slot.
     pub slot: Identifier,
     /// The accessors, in order.
-    pub steps: Seq<PlaceStep>,
+    pub steps: Seq<Call>,
 }
 
-/// One accessor of a place: `.NAME()`, or `.NAME(INDEX)`.
+/// A call of an accessor or of a field: `.NAME()`, or `.NAME(INDEX)`.
 #[derive(Drop)]
-pub struct PlaceStep {
-    /// The name of the accessor.
+pub struct Call {
+    /// The name of the accessor or field.
     pub name: Identifier,
     /// The index, where one is given.
     pub index: Option<u64>,
@@ -72,10 +72,10 @@ pub enum Link {
         /// What the word becomes.
         value: Value,
     },
-    /// `.FIELD().METHOD()`, or `.FIELD().METHOD(VALUE)`
+    /// `.FIELD().METHOD()`, or `.FIELD().METHOD(VALUE)`, each also with `.FIELD(INDEX)`
     Field {
         /// The field.
-        field: Identifier,
+        field: Call,
         /// The call on it.
         method: Identifier,
         /// What the call takes, where it takes something.
@@ -118,12 +118,12 @@ pub enum Source {
         /// The bound name.
         reader: Identifier,
     },
-    /// `READER.FIELD().METHOD()`
+    /// `READER.FIELD().METHOD()`, or `READER.FIELD(INDEX).METHOD()`
     Field {
         /// The bound name.
         reader: Identifier,
         /// The field.
-        field: Identifier,
+        field: Call,
         /// The call on it.
         method: Identifier,
     },

@@ -4,6 +4,7 @@ ghost use Rattle.frag_words.specs.Lines.{line, line_text, lines_text};
 ghost use Rattle.frag_tree.specs.Registers.{calls_lines, number_call_line, opening_pieces, truth_call_line, values_lines};
 
 use crate::line::{Part, deeper, push_line};
+use crate::phrase::Phrase;
 use crate::register::{NumberCall, TruthCall, Values};
 use pac_base::NoMemory;
 use pac_io::Page;
@@ -27,7 +28,7 @@ fn push_values(page: &mut Page, depth: usize, block: &Values) -> Result<(), NoMe
 {
     push_opening(page, depth, block)?;
     push_calls(page, deeper(depth)?, block)?;
-    push_line(page, depth, &[Part::Text("}")])
+    push_line(page, depth, &[Part::Text(Phrase::Closer)])
 }
 
 fn push_opening(page: &mut Page, depth: usize, block: &Values) -> Result<(), NoMemory>
@@ -39,9 +40,9 @@ fn push_opening(page: &mut Page, depth: usize, block: &Values) -> Result<(), NoM
                 page,
                 depth,
                 &[
-                    Part::Text("impl BitReader<"),
+                    Part::Text(Phrase::BitReaderImpl),
                     Part::Name(marker),
-                    Part::Text("> {"),
+                    Part::Text(Phrase::OpensCalls),
                 ],
             )
         }
@@ -50,11 +51,11 @@ fn push_opening(page: &mut Page, depth: usize, block: &Values) -> Result<(), NoM
                 page,
                 depth,
                 &[
-                    Part::Text("impl FieldReader<"),
+                    Part::Text(Phrase::FieldReaderImpl),
                     Part::Name(marker),
-                    Part::Text(", "),
+                    Part::Text(Phrase::ThenNext),
                     Part::Width(*width),
-                    Part::Text("> {"),
+                    Part::Text(Phrase::OpensCalls),
                 ],
             )
         }
@@ -63,11 +64,11 @@ fn push_opening(page: &mut Page, depth: usize, block: &Values) -> Result<(), NoM
                 page,
                 depth,
                 &[
-                    Part::Text("impl<'a> "),
+                    Part::Text(Phrase::WriterImpl),
                     Part::Kind(*kind),
-                    Part::Text("<'a, Spec, "),
+                    Part::Text(Phrase::OfSpecInImpl),
                     Part::Name(marker),
-                    Part::Text("> {"),
+                    Part::Text(Phrase::OpensCalls),
                 ],
             )
         }
@@ -81,13 +82,13 @@ fn push_opening(page: &mut Page, depth: usize, block: &Values) -> Result<(), NoM
                 page,
                 depth,
                 &[
-                    Part::Text("impl<'a> FieldWriter<'a, Spec, "),
+                    Part::Text(Phrase::FieldWriterImpl),
                     Part::Name(marker),
-                    Part::Text(", "),
+                    Part::Text(Phrase::ThenNext),
                     Part::Width(*width),
-                    Part::Text(", "),
+                    Part::Text(Phrase::ThenNext),
                     Part::Decimal(*bits),
-                    Part::Text("> {"),
+                    Part::Text(Phrase::OpensCalls),
                 ],
             )
         }
@@ -129,11 +130,11 @@ fn push_truth(page: &mut Page, depth: usize, reads: bool, call: &TruthCall) -> R
             page,
             depth,
             &[
-                Part::Text("pub fn "),
+                Part::Text(Phrase::PubFn),
                 name,
-                Part::Text("(&self) -> bool { self.bit() == "),
+                Part::Text(Phrase::TestsBit),
                 value,
-                Part::Text(" }"),
+                Part::Text(Phrase::ClosesBody),
             ],
         )
     } else {
@@ -141,11 +142,11 @@ fn push_truth(page: &mut Page, depth: usize, reads: bool, call: &TruthCall) -> R
             page,
             depth,
             &[
-                Part::Text("pub fn "),
+                Part::Text(Phrase::PubFn),
                 name,
-                Part::Text("(self) -> &'a mut W<Spec> { self.bit("),
+                Part::Text(Phrase::WritesBit),
                 value,
-                Part::Text(") }"),
+                Part::Text(Phrase::ClosesCall),
             ],
         )
     }
@@ -180,11 +181,11 @@ fn push_number(
             page,
             depth,
             &[
-                Part::Text("pub fn "),
+                Part::Text(Phrase::PubFn),
                 name,
-                Part::Text("(&self) -> bool { self.bits() == "),
+                Part::Text(Phrase::TestsNumber),
                 value,
-                Part::Text(" }"),
+                Part::Text(Phrase::ClosesBody),
             ],
         )
     } else {
@@ -192,11 +193,11 @@ fn push_number(
             page,
             depth,
             &[
-                Part::Text("pub fn "),
+                Part::Text(Phrase::PubFn),
                 name,
-                Part::Text("(self) -> &'a mut W<Spec> { self.bits("),
+                Part::Text(Phrase::WritesNumber),
                 value,
-                Part::Text(") }"),
+                Part::Text(Phrase::ClosesCall),
             ],
         )
     }

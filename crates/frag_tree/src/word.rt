@@ -6,7 +6,7 @@ use crate::register::BitKind;
 use pac_base::Width;
 
 /// The type of a number of this width.
-pub(crate) fn width_word(width: Width) -> &'static [u8]
+pub fn width_word(width: Width) -> &'static [u8]
     ensures { result.now ≡ width_word width }
 {
     match width {
@@ -18,14 +18,14 @@ pub(crate) fn width_word(width: Width) -> &'static [u8]
 }
 
 /// The word for a truth.
-pub(crate) fn truth_word(truth: bool) -> &'static [u8]
+pub fn truth_word(truth: bool) -> &'static [u8]
     ensures { result.now ≡ truth_word truth }
 {
     if truth { b"true" } else { b"false" }
 }
 
 /// The writer of a bit of this kind.
-pub(crate) fn kind_word(kind: BitKind) -> &'static [u8]
+pub fn kind_word(kind: BitKind) -> &'static [u8]
     ensures { result.now ≡ kind_word kind }
 {
     match kind {

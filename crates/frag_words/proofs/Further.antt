@@ -5,8 +5,8 @@ use Rattle.std.specs.Str.{bytes_eq}
 use Rattle.std.proofs.lemmas.Slice.Eq.{bytes_eq-Decides}
 use Rattle.std.proofs.lemmas.List.{append-nil}
 use Rattle.frag_words.specs.Words.{Word}
-use Rattle.frag_words.specs.Readings.{Reading, IsExact, behind, pair, either, list_then, restated, nothing, fixed_words, among, one_of, truth_of, side_of, choice, list_until, option_to, option_side, option_from, option_then, flag_to, flag_side, flag_from, flag_then}
-use Rattle.frag_words.proofs.Readings.{Tells, given, some_is, behind_exact, pair_exact, mapped_exact, either_exact, spelled_exact}
+use Rattle.frag_words.specs.Readings.{Reading, IsExact, behind, pair, either, list_then, restated, nothing, fixed_words, among, one_of, truth_of, side_of, choice, list_until, option_to, option_side, option_from, option_then, flag_to, flag_side, flag_from, flag_then, only_if, told_apart, words_of_part, valid_part, within, then_read}
+use Rattle.frag_words.proofs.Readings.{Tells, given, some_is, then_some, behind_exact, pair_exact, mapped_exact, either_exact, spelled_exact}
 use Rattle.frag_words.proofs.Lists.{Ends, list_exact}
 
 pub restated_exact : {A : Type 0} (words : A → List Word) (is_valid : A → Bool) (reading : Reading A) → ((tree : A) → words tree ≡ reading.words tree) → ((tree : A) → is_valid tree ≡ reading.is_valid tree) → IsExact A reading → IsExact A (restated words is_valid reading)
@@ -94,3 +94,52 @@ flag_exact {B} test fixed end tells exact =
     forth : (side : B ⊎ B) → flag_from (flag_to side) ≡ side
     forth (inl x) = refl
     forth (inr x) = refl
+
+pub only_if_exact : {A : Type 0} (allowed : Bool) (reading : Reading A) → IsExact A reading → IsExact A (only_if allowed reading)
+only_if_exact true reading exact = record { again = exact.again; takes = exact.takes }
+only_if_exact false reading exact = record { again = λ tree rest valid. absurd cc; takes = λ text tree rest h. absurd cc }
+
+-- tests of the text and of the tree tell two productions apart
+pub record Sides (A : Type 0) (test : List Word → Bool) (side : A → Bool) (first second : Reading A) : Type 0 where
+  pub yes : (tree : A) (rest : List Word) → first.is_valid tree ≡ true → (side tree ≡ true) × (test (first.words tree ++ rest) ≡ true)
+  pub no_other : (tree : A) (rest : List Word) → second.is_valid tree ≡ true → (side tree ≡ false) × (test (second.words tree ++ rest) ≡ false)
+
+side_again : {A : Type 0} (test : List Word → Bool) (first second : Reading A) (tree : A) (rest : List Word) (hit : Bool) → IsExact A first → IsExact A second → (first.is_valid tree ≡ true → test (first.words tree ++ rest) ≡ true) → (second.is_valid tree ≡ true → test (second.words tree ++ rest) ≡ false) → (if hit then first.is_valid tree else second.is_valid tree) ≡ true → (if test ((if hit then first.words tree else second.words tree) ++ rest) then first.read ((if hit then first.words tree else second.words tree) ++ rest) else second.read ((if hit then first.words tree else second.words tree) ++ rest)) ≡ given (tree, rest)
+side_again test first second tree rest true exact_first exact_second of_first of_second valid =
+    ap (λ b. if b then first.read (first.words tree ++ rest) else second.read (first.words tree ++ rest)) (of_first valid) ∙ exact_first.again tree rest valid
+side_again test first second tree rest false exact_first exact_second of_first of_second valid =
+    ap (λ b. if b then first.read (second.words tree ++ rest) else second.read (second.words tree ++ rest)) (of_second valid) ∙ exact_second.again tree rest valid
+
+side_takes : {A : Type 0} (test : List Word → Bool) (side : A → Bool) (first second : Reading A) → Sides A test side first second → IsExact A first → IsExact A second → (text : List Word) (tree : A) (rest : List Word) (hit : Bool) → (if hit then first.read text else second.read text) ≡ given (tree, rest) → (text ≡ (if side tree then first.words tree else second.words tree) ++ rest) × ((if side tree then first.is_valid tree else second.is_valid tree) ≡ true)
+side_takes test side first second sides exact_first exact_second text tree rest true h =
+    let taken = exact_first.takes text tree rest h in
+    let is = (sides.yes tree rest taken.1).0 in
+    (taken.0 ∙ ap (λ b. (if b then first.words tree else second.words tree) ++ rest) (sym is), ap (λ b. if b then first.is_valid tree else second.is_valid tree) is ∙ taken.1)
+side_takes test side first second sides exact_first exact_second text tree rest false h =
+    let taken = exact_second.takes text tree rest h in
+    let is = (sides.no_other tree rest taken.1).0 in
+    (taken.0 ∙ ap (λ b. (if b then first.words tree else second.words tree) ++ rest) (sym is), ap (λ b. if b then first.is_valid tree else second.is_valid tree) is ∙ taken.1)
+
+pub told_apart_exact : {A : Type 0} (test : List Word → Bool) (side : A → Bool) (first second : Reading A) → Sides A test side first second → IsExact A first → IsExact A second → IsExact A (told_apart test side first second)
+told_apart_exact test side first second sides exact_first exact_second = record {
+  again = λ tree rest valid. side_again test first second tree rest (side tree) exact_first exact_second (λ v. (sides.yes tree rest v).1) (λ v. (sides.no_other tree rest v).1) valid;
+  takes = λ text tree rest h. side_takes test side first second sides exact_first exact_second text tree rest (test text) h;
+}
+
+part_again : {A B : Type 0} (to : A → B) (reading : Reading A) → IsExact A reading → (tree : B) (o : Option A) (rest : List Word) → ((part : A) → o ≡ given part → to part ≡ tree) → valid_part reading o ≡ true → then_read {A = A} {B = B × List Word} (reading.read (words_of_part reading o ++ rest)) (λ part left. Some (to part, left)) ≡ given (tree, rest)
+part_again to reading exact tree None rest back valid = absurd cc
+part_again {A} {B} to reading exact tree (Some part) rest back valid =
+    ap (λ (o : Option (A × List Word)). then_read o (λ p left. Some (to p, left))) (exact.again part rest valid)
+    ∙ ap (λ t. Some (t, rest)) (back part refl)
+
+pub within_exact : {A B : Type 0} (to : A → B) (from : B → Option A) (reading : Reading A) → ((tree : B) (part : A) → from tree ≡ given part → to part ≡ tree) → ((part : A) → from (to part) ≡ given part) → IsExact A reading → IsExact B (within to from reading)
+within_exact {A} {B} to from reading back forth exact = record {
+  again = λ tree rest valid. part_again to reading exact tree (from tree) rest (back tree) valid;
+  takes = λ text tree rest h.
+      let hit = then_some (reading.read text) (λ p left. Some (to p, left)) (tree, rest) h in
+      let more = exact.takes text hit.0.0 hit.0.1 hit.1 in
+      let same = some_is (to hit.0.0, hit.0.1) (tree, rest) hit.2 in
+      let is : from tree ≡ given hit.0.0 = ap (λ (p : B × List Word). from p.0) (sym same) ∙ forth hit.0.0 in
+      let rest_is : hit.0.1 ≡ rest = ap (λ (p : B × List Word). p.1) same in
+      (more.0 ∙ (ap (λ xs. reading.words hit.0.0 ++ xs) rest_is ∙ ap (λ (o : Option A). words_of_part reading o ++ rest) (sym is)), ap (λ (o : Option A). valid_part reading o) is ∙ more.1);
+}

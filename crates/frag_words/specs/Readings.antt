@@ -206,6 +206,38 @@ flag_from trees = flag_side trees.0 trees.1
 abbrev pub flag_then : {B : Type 0} → (List Word → Bool) → List Word → Reading B → Reading (Bool × B)
 flag_then test fixed end = mapped flag_to flag_from (either test (behind fixed end) end)
 
+-- a production that stands only where a truth holds
+abbrev pub only_if : {A : Type 0} → Bool → Reading A → Reading A
+only_if allowed reading = record {
+  words = reading.words;
+  is_valid = λ tree. allowed && reading.is_valid tree;
+  read = λ text. if allowed then reading.read text else None;
+}
+
+-- one of two productions of the same trees: which one, a test of the text and one of the tree say
+abbrev pub told_apart : {A : Type 0} → (List Word → Bool) → (A → Bool) → Reading A → Reading A → Reading A
+told_apart test side first second = record {
+  words = λ tree. if side tree then first.words tree else second.words tree;
+  is_valid = λ tree. if side tree then first.is_valid tree else second.is_valid tree;
+  read = λ text. if test text then first.read text else second.read text;
+}
+
+-- the trees of a wider type that a production stands for
+abbrev pub words_of_part : {A : Type 0} → Reading A → Option A → List Word
+words_of_part reading None = []
+words_of_part reading (Some part) = reading.words part
+
+abbrev pub valid_part : {A : Type 0} → Reading A → Option A → Bool
+valid_part reading None = false
+valid_part reading (Some part) = reading.is_valid part
+
+abbrev pub within : {A B : Type 0} → (A → B) → (B → Option A) → Reading A → Reading B
+within to from reading = record {
+  words = λ tree. words_of_part reading (from tree);
+  is_valid = λ tree. valid_part reading (from tree);
+  read = λ text. then_read (reading.read text) (λ tree rest. Some (to tree, rest));
+}
+
 -- ---- laws
 
 -- An exact production has one tree for a text.

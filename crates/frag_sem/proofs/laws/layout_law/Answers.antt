@@ -1,4 +1,4 @@
-use Rattle.frag_sem.proofs.Placing.{behind_gap, behind_end, fields_apart, fields_aligned}
+use Rattle.frag_sem.proofs.Placing.{behind_gap, behind_end, ends_grow, fields_apart, fields_aligned, size_reaches}
 use Rattle.frag_sem.proofs.laws.layout_law.Goals as goal
 
 pub returns-clause-behind_gap : goal.returns-clause-behind_gap
@@ -12,3 +12,9 @@ returns-clause-apart c = fields_apart
 
 pub returns-clause-aligned : goal.returns-clause-aligned
 returns-clause-aligned c = fields_aligned
+
+pub returns-clause-grows : goal.returns-clause-grows
+returns-clause-grows c = ends_grow
+
+pub returns-clause-size : goal.returns-clause-size
+returns-clause-size c = size_reaches

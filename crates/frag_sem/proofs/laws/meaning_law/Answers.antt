@@ -1,4 +1,4 @@
-use Rattle.frag_sem.proofs.Events.{events_are_few, events_in_range, places_are_registers, presets_in_range, reads_are_answered}
+use Rattle.frag_sem.proofs.Events.{events_are_few, events_in_range, places_are_registers, presets_in_range, reads_are_answered, version_keeps}
 use Rattle.frag_sem.proofs.laws.meaning_law.Goals as goal
 
 pub returns-clause-places : goal.returns-clause-places
@@ -15,3 +15,6 @@ returns-clause-presets c = presets_in_range
 
 pub returns-clause-answers : goal.returns-clause-answers
 returns-clause-answers c = reads_are_answered
+
+pub returns-clause-version : goal.returns-clause-version
+returns-clause-version c = version_keeps

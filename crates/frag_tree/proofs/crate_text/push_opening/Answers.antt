@@ -20,7 +20,7 @@ returns c =
     on_ok_weaker c.push_accessors.result
     (λ e. subst (λ (h : BlockHead). c.push_accessors.new.page ≡ c.args.page.now ++ lines_text (opening_lines depth h)) is
     (put_more _ _ _ (line depth (module_opening held.name)) (prelude_line (depth + 1) ∷ (fields ++ accessors)) c.in_ok-push_line.ensures
-    (put_more _ _ _ (prelude_line (depth + 1)) (fields ++ accessors) (rw c.in_ok-inner.ensures at c.in_ok-push_line-2.ensures)
-    (put_then _ _ _ fields accessors (subst (λ (d : ℕ). c.push_struct.new.page ≡ c.push_line-2.new.page ++ lines_text (struct_lines d held.fields)) c.in_ok-inner.ensures (rw c.as_slice.ensures at c.in_ok-push_struct.ensures))
+    (put_more _ _ _ (prelude_line (depth + 1)) (fields ++ accessors) (rw c.in_ok-inner.ensures at c.in_ok-push_fixed.ensures)
+    (put_then _ _ _ fields accessors (subst (λ (d : ℕ). c.push_struct.new.page ≡ c.push_fixed.new.page ++ lines_text (struct_lines d held.fields)) c.in_ok-inner.ensures (rw c.as_slice.ensures at c.in_ok-push_struct.ensures))
     (subst (λ (d : ℕ). c.push_accessors.new.page ≡ c.push_struct.new.page ++ lines_text (accessor_lines d held.accessors)) c.in_ok-inner.ensures (rw c.as_slice-2.ensures at e))))))
     c.push_accessors.ensures

@@ -31,11 +31,11 @@ returns-clause-access c = one_tree access_reading access_exact
 
 pub returns-clause-reader : goal.returns-clause-reader
 unfolding reader_reading
-returns-clause-reader c = one_tree reader_reading reader_exact
+returns-clause-reader c version = one_tree (reader_reading version) (reader_exact version)
 
 pub returns-clause-writer : goal.returns-clause-writer
 unfolding writer_reading
-returns-clause-writer c = one_tree writer_reading writer_exact
+returns-clause-writer c version = one_tree (writer_reading version) (writer_exact version)
 
 pub returns-clause-values : goal.returns-clause-values
 unfolding values_reading
@@ -43,16 +43,16 @@ returns-clause-values c = one_tree values_reading values_exact
 
 pub returns-clause-register : goal.returns-clause-register
 unfolding register_reading
-returns-clause-register c = one_tree register_reading register_exact
+returns-clause-register c version = one_tree (register_reading version) (register_exact version)
 
 pub returns-clause-block : goal.returns-clause-block
 unfolding block_reading
-returns-clause-block c = one_tree block_reading block_exact
+returns-clause-block c version = one_tree (block_reading version) (block_exact version)
 
 pub returns-clause-module_tree : goal.returns-clause-module_tree
 unfolding module_reading
-returns-clause-module_tree c = one_tree module_reading module_exact
+returns-clause-module_tree c version = one_tree (module_reading version) (module_exact version)
 
 pub returns-clause-modules : goal.returns-clause-modules
 unfolding modules_reading
-returns-clause-modules c = one_tree modules_reading modules_exact
+returns-clause-modules c version = one_tree (modules_reading version) (modules_exact version)
