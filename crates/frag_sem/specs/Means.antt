@@ -1,4 +1,4 @@
--- Which events a script has against a crate text, as a relation that has no case for what isn't there: a name that isn't bound, a place of no register, a register that can't be read or written, a field or a method of nothing, a value of another type than the one that is wanted.
+-- Which events a script has against a crate text, as a relation that has no case for what isn't there: a name that isn't bound, a place of no register, a register that can't be read or written, a field or a method of nothing, a truth in place of a number or a number in place of a truth, a number too great.
 use Rattle.std.specs.Prelude.{ℕ, ◌≡◌, ◌<◌, ◌+◌, ◌*◌, ◌%◌, ◌^◌, Bool, true, false, ◌==◌, IsTrue, IsSomeAnd, List, [], ◌∷◌, ◌++◌, codes, drop, find, Option, Some, None}
 use Rattle.std.specs.Str.{bytes_eq}
 use Rattle.pac_base.specs.declared.width.Width.{Width}
