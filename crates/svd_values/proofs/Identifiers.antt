@@ -1,7 +1,7 @@
 -- The names of a generated crate are identifiers.
 use Rattle.std.proofs.Common.{◌≡◌, ◌≢◌, ℕ, zero, suc, ◌+◌, ◌/◌, ◌%◌, Bool, true, false, not, ◌&&◌, ◌||◌, ◌==◌, nat_eq, nat_lt, ◌<◌, List, [], ◌∷◌, ◌++◌, refl, sym, ap, ◌∙◌, subst, arith, bytes_eq, decimal, append-nil, append_assoc, if◌then◌else◌}
 use Rattle.std.specs.Prelude.{codes, IsTrue}
-use Rattle.std.specs.Char.{is_ascii_digit}
+use Rattle.std.specs.Char.{is_ascii_digit, to_ascii_lowercase}
 use Rattle.std.specs.List.{list_all, list_any, starts_with}
 use Rattle.std.specs.Fmt.{digits, digits_onto, digit_glyph}
 use Rattle.std.proofs.lemmas.Bool.{or_parts, false≢true}
@@ -10,7 +10,7 @@ use Rattle.std.proofs.lemmas.Slice.Eq.{bytes_eq-Decides}
 use Rattle.pac_base.specs.Names.{IsWord, is_word_byte}
 use Rattle.svd_values.specs.AccessorNames.{call_name, guarded, is_call_name, is_taken_call, is_taken_slot, plain_lower, taken_guard, without_array_mark}
 use Rattle.std.specs.Str.{str_to_ascii_lowercase}
-use Rattle.svd_values.specs.Identifiers.{AccessorsAreCallNames, IsCallName, IsIdentifier, IsSomeWord, MarkersAreIdentifiers, SlotsAreIdentifiers, TestsAreCallNames, VariantsAreCallNames, gap_name, is_start}
+use Rattle.svd_values.specs.Identifiers.{AccessorsAreCallNames, IsCallName, IsIdentifier, IsSomeWord, MarkersAreIdentifiers, MarkersTell, SlotsAreIdentifiers, TestsAreCallNames, VariantsAreCallNames, gap_name, is_start}
 use Rattle.svd_values.specs.Reserved.{is_keyword, is_prelude_name, keywords, prelude_names}
 use Rattle.svd_values.proofs.CallNames.{lower_word, plain_lower_word, some_lower, word_append}
 use Rattle.svd_values.proofs.Fronts.{both_true}
@@ -233,3 +233,46 @@ markers_are name some =
     let begins = more_behind (guarded name) (95 ∷ []) (starts name some) refl in
     subst IsIdentifier (append_assoc (guarded name) (95 ∷ []) (70 ∷ []))
     (identifier ((guarded name ++ 95 ∷ []) ++ 70 ∷ []) (more_behind (guarded name ++ 95 ∷ []) (70 ∷ []) begins refl) (not_low (guarded name ++ 95 ∷ []) 70 begins) (no_keyword_f (guarded name ++ 95 ∷ [])))
+
+-- ---- equal names
+
+-- a name in lower case is guarded as the name is
+lower_guarded : (name : List ℕ) → guarded (str_to_ascii_lowercase name) ≡ str_to_ascii_lowercase (guarded name)
+lower_guarded [] = refl
+lower_guarded (byte ∷ bytes) = ap (λ b. (if b then codes "_" else []) ++ (to_ascii_lowercase byte ∷ str_to_ascii_lowercase bytes)) (same_digit byte) ∙ by (is_ascii_digit byte)
+  where
+    same_digit : (byte : ℕ) → is_ascii_digit (to_ascii_lowercase byte) ≡ is_ascii_digit byte
+    same_digit byte = grind (arith, nat_tests)
+
+    by : (b : Bool) → (if b then codes "_" else []) ++ (to_ascii_lowercase byte ∷ str_to_ascii_lowercase bytes) ≡ str_to_ascii_lowercase ((if b then codes "_" else []) ++ (byte ∷ bytes))
+    by true = refl
+    by false = refl
+
+-- so the call of a name is told by the guarded name
+call_told : List ℕ → List ℕ
+call_told word = str_to_ascii_lowercase word ++ taken_guard (is_taken_call (str_to_ascii_lowercase word))
+
+call_is_told : (name : List ℕ) → call_name (str_to_ascii_lowercase name) ≡ call_told (guarded name)
+unfolding call_told
+call_is_told name = ap (λ word. word ++ taken_guard (is_taken_call word)) (lower_guarded name)
+
+drop_last : List ℕ → List ℕ
+drop_last [] = []
+drop_last (byte ∷ []) = []
+drop_last (byte ∷ next ∷ others) = byte ∷ drop_last (next ∷ others)
+
+front_of : (front : List ℕ) (last : ℕ) → drop_last (front ++ last ∷ []) ≡ front
+unfolding drop_last
+front_of [] last = refl
+front_of (byte ∷ []) last = refl
+front_of (byte ∷ next ∷ front) last = ap (λ l. byte ∷ l) (front_of (next ∷ front) last)
+
+same_front : (one other : List ℕ) (last : ℕ) → one ++ last ∷ [] ≡ other ++ last ∷ [] → one ≡ other
+same_front one other last same = sym (front_of one last) ∙ (ap drop_last same ∙ front_of other last)
+
+pub markers_tell : MarkersTell
+markers_tell one other same =
+    let a = without_array_mark one in
+    let b = without_array_mark other in
+    let longer : guarded a ++ 95 ∷ [] ≡ guarded b ++ 95 ∷ [] = same_front (guarded a ++ 95 ∷ []) (guarded b ++ 95 ∷ []) 70 (append_assoc (guarded a) (95 ∷ []) (70 ∷ []) ∙ (same ∙ sym (append_assoc (guarded b) (95 ∷ []) (70 ∷ [])))) in
+    call_is_told a ∙ (ap call_told (same_front (guarded a) (guarded b) 95 longer) ∙ sym (call_is_told b))

@@ -55,3 +55,7 @@ SlotsAreIdentifiers = (name : List ℕ) → IsSomeWord name → IsIdentifier (sl
 
 abbrev pub MarkersAreIdentifiers : Type 0
 MarkersAreIdentifiers = (name : List ℕ) → IsSomeWord name → IsIdentifier (marker_name name)
+
+-- Fields of one marker have one accessor: so where accessors are distinct, markers are.
+abbrev pub MarkersTell : Type 0
+MarkersTell = (one other : List ℕ) → marker_name (without_array_mark one) ≡ marker_name (without_array_mark other) → accessor_name one ≡ accessor_name other

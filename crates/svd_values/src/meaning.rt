@@ -1,4 +1,4 @@
-ghost use Rattle.svd_values.specs.Identifiers.{AccessorsAreCallNames, MarkersAreIdentifiers, SlotsAreIdentifiers, TestsAreCallNames, VariantsAreCallNames};
+ghost use Rattle.svd_values.specs.Identifiers.{AccessorsAreCallNames, MarkersAreIdentifiers, MarkersTell, SlotsAreIdentifiers, TestsAreCallNames, VariantsAreCallNames};
 ghost use Rattle.svd_values.specs.Meanings.{HasOneNumber, HasOneValue, HasOnePlace, HasOneIndex};
 
 /// A law: no text is a number of two values.
@@ -36,4 +36,5 @@ pub fn names_are_identifiers()
     ensures tests { TestsAreCallNames }
     ensures slots { SlotsAreIdentifiers }
     ensures markers { MarkersAreIdentifiers }
+    ensures markers_tell { MarkersTell }
 {}
