@@ -13,17 +13,17 @@ use Rattle.frag_sem.specs.Layout.{Extents, end_behind, end_of, place_behind, pla
 -- ---- multiples
 
 -- a multiple is the next one itself
-next_same : (n a : ℕ) → n % a ≡ 0 → next_multiple_of n a ≡ n
+pub next_same : (n a : ℕ) → n % a ≡ 0 → next_multiple_of n a ≡ n
 next_same n zero e = ap (λ (k : ℕ). n + (0 - k) % 0) e ∙ omega arith
 next_same n (suc a) e =
     let none : (suc a - n % suc a) % suc a ≡ 0 = ap (λ (k : ℕ). (suc a - k) % suc a) e ∙ ap (λ (k : ℕ). k % suc a) (sub-zero (suc a)) ∙ mod_self (suc a) in
     omega arith
 
-next_reaches : (n a : ℕ) → n ≤ next_multiple_of n a
+pub next_reaches : (n a : ℕ) → n ≤ next_multiple_of n a
 next_reaches n a = omega arith
 
 -- the next multiple is one
-next_is : (n a : ℕ) → 0 < a → next_multiple_of n a % a ≡ 0
+pub next_is : (n a : ℕ) → 0 < a → next_multiple_of n a % a ≡ 0
 next_is n a some = by (n % a) refl
   where
     by : (k : ℕ) → n % a ≡ k → next_multiple_of n a % a ≡ 0
@@ -36,19 +36,19 @@ next_is n a some = by (n % a) refl
 
 -- ---- fields in order
 
-placed_more : (known : Extents) (end : ℕ) (front others : List StructField) → placed_behind known end (front ++ others) ≡ placed_behind known end front ++ placed_behind known (fold (end_behind known) end front) others
+pub placed_more : (known : Extents) (end : ℕ) (front others : List StructField) → placed_behind known end (front ++ others) ≡ placed_behind known end front ++ placed_behind known (fold (end_behind known) end front) others
 unfolding placed_behind
 placed_more known end [] others = refl
 placed_more known end (field ∷ front) others = ap (λ rest. (field, place_behind known end field) ∷ rest) (placed_more known (end_behind known end field) front others)
 
 -- a test that no first one passes finds what it finds behind them
-find_behind : {X : Type 0} (test : X → Bool) (front others : List X) → list_any test front ≡ false → find test (front ++ others) ≡ find test others
+pub find_behind : {X : Type 0} (test : X → Bool) (front others : List X) → list_any test front ≡ false → find test (front ++ others) ≡ find test others
 find_behind test [] others none = refl
 find_behind test (x ∷ front) others none =
     let parts = or_parts (test x) (list_any test front) none in
     rw parts.0 (find_behind test front others parts.1)
 
-named_placed : (known : Extents) (end : ℕ) (name : List ℕ) (fields : List StructField) → list_any (λ entry. bytes_eq name entry.0.name) (placed_behind known end fields) ≡ list_any (λ field. bytes_eq name field.name) fields
+pub named_placed : (known : Extents) (end : ℕ) (name : List ℕ) (fields : List StructField) → list_any (λ entry. bytes_eq name entry.0.name) (placed_behind known end fields) ≡ list_any (λ field. bytes_eq name field.name) fields
 unfolding placed_behind
 named_placed known end name [] = refl
 named_placed known end name (field ∷ fields) = ap (λ b. bytes_eq name field.name || b) (named_placed known (end_behind known end field) name fields)
@@ -65,7 +65,7 @@ behind_end known front others field apart fits =
     ∙ rw ((bytes_eq-Decides name name).1 refl) (ap Some (next_same E (type_extent known field.holds).align fits)))
 
 -- a gap ends its bytes behind what stands before it
-end_gap : (known : Extents) (front : List StructField) (gap : List ℕ) (bytes : ℕ) → end_of known (front ++ gap_of gap bytes ∷ []) ≡ end_of known front + bytes
+pub end_gap : (known : Extents) (front : List StructField) (gap : List ℕ) (bytes : ℕ) → end_of known (front ++ gap_of gap bytes ∷ []) ≡ end_of known front + bytes
 end_gap known front gap bytes =
     fold-append (end_behind known) 0 front (gap_of gap bytes ∷ []) ∙ ap (λ (n : ℕ). n + bytes) (next_same (end_of known front) 1 (mod-one (end_of known front)))
 

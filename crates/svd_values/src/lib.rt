@@ -11,8 +11,6 @@ mod place;
 mod reserved;
 mod schema_word;
 mod table;
-#[cfg(test)]
-mod tests;
 
 pub use call_name::{accessor, is_call, slot_name, variant_call};
 pub use index::{DimIndex, IndexFault, Words, dim_index};

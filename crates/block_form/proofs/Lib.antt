@@ -1,0 +1,10 @@
+pub mod Ordering
+pub mod Forming
+pub mod Taking
+pub mod Advancing
+pub mod Standing
+pub mod Extents
+pub mod Names
+pub mod GapNames
+pub mod Rules
+pub mod Valid

@@ -1,0 +1,9 @@
+pub mod Children
+pub mod Gaps
+pub mod Order
+pub mod Fields
+pub mod Forms
+pub mod Placings
+pub mod Numbers
+pub mod Laws
+pub mod Worked

@@ -1,0 +1,53 @@
+#!/usr/bin/env bash
+# The checks that need the built program: each description under examples/ that has a listing beside it is listed
+# so, real files and outputs that fail are told so, and `./pac` works through a symbolic link. Says nothing where
+# all hold, and ends with 1 where one doesn't.
+top="$(cd "$(dirname "$0")/.." && pwd)" || exit 1
+program="$top/crates/pac_main/out/pac_main"
+failed=0
+
+fail() {
+    echo "tests/examples.sh: $*" >&2
+    failed=1
+}
+
+[ -x "$program" ] || { fail "$program isn't built"; exit 1; }
+folder="$(mktemp -d)" || exit 1
+trap 'rm -rf "$folder"' EXIT
+
+listed=0
+for listing in "$top"/examples/*.txt; do
+    example="examples/$(basename "$listing" .txt).svd"
+    "$program" list "$top/$example" >"$folder/out" 2>"$folder/err"
+    status=$?
+    [ "$status" -eq 0 ] || fail "$example: status $status"
+    diff "$listing" "$folder/out" >&2 || fail "$example: its listing differs"
+    [ -s "$folder/err" ] && fail "$example: $(cat "$folder/err")"
+    listed=$((listed + 1))
+done
+[ "$listed" -gt 0 ] || fail "no listing stands under examples/"
+
+# fails STATUS LINE WHAT: the last run's status and line, and that nothing went to standard output.
+fails() {
+    [ "$status" -eq "$1" ] || fail "$3: status $status instead of $1"
+    grep -q -- "^pac: $2" "$folder/err" || fail "$3: $(cat "$folder/err")"
+    [ -s "$folder/out" ] && fail "$3: something went to standard output"
+}
+
+"$program" list "$folder/none.svd" >"$folder/out" 2>"$folder/err"
+status=$?
+fails 3 "cannot read $folder/none.svd$" 'a file that is not there'
+"$program" list "$folder" >"$folder/out" 2>"$folder/err"
+status=$?
+fails 3 "cannot read $folder$" 'a folder'
+: >"$folder/out"
+"$program" list "$top/examples/timer.svd" >/dev/full 2>"$folder/err"
+status=$?
+fails 4 'cannot write$' 'an output that is full'
+
+# No words are refused with the usage, through a link and from another folder too.
+ln -s "$top/pac" "$folder/pac"
+(cd "$folder" && ./pac) >"$folder/out" 2>"$folder/err"
+status=$?
+fails 2 'usage: ' './pac through a link'
+exit "$failed"
