@@ -10,7 +10,8 @@ any_agree : (f g : ℕ → Bool) (xs : List ℕ) → ((d : ℕ) → among d xs �
 any_agree f g [] h = refl
 any_agree f g (x ∷ xs) h = ap₂ (λ a b. a || b) (h x (among-head x xs)) (any_agree f g xs (λ d p. h d (or_right (nat_eq d x) (among d xs) p)))
 
-any_false : (f : ℕ → Bool) (xs : List ℕ) → ((d : ℕ) → among d xs ≡ true → f d ≡ false) → list_any f xs ≡ false
+-- where none passes, none is found
+pub any_false : (f : ℕ → Bool) (xs : List ℕ) → ((d : ℕ) → among d xs ≡ true → f d ≡ false) → list_any f xs ≡ false
 any_false f [] h = refl
 any_false f (x ∷ xs) h = ap₂ (λ a b. a || b) (h x (among-head x xs)) (any_false f xs (λ d p. h d (or_right (nat_eq d x) (among d xs) p)))
 

@@ -8,3 +8,4 @@ pub mod Depths
 pub mod Sums
 pub mod Steps
 pub mod Deepening
+pub mod Limits

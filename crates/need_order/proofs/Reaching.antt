@@ -5,7 +5,7 @@ use Rattle.std.proofs.lemmas.List.{take-append-le, take_all, take_more}
 use Rattle.std.proofs.lemmas.Option.{slice_get_past, slice_get_within, get_or_from_slice_get, slice_get-get_or}
 use Rattle.need_order.specs.declared.element.Element.{Element}
 use Rattle.need_order.specs.Needs.{among, needs, needs_in, needs_of, Leads, IsPath, IsWithin}
-use Rattle.need_order.specs.Gathering.{Gathers, with_item, with_items, Gathering, gathering}
+use Rattle.need_order.specs.Gathering.{Gathers, with_item, with_items, Gathering}
 use Rattle.need_order.specs.Ranks.{IsFalling, rises_to, rank_of}
 use Rattle.need_order.proofs.Numbers.{among-cases, among-one, among-left, among-end, among-head, or_none, or_right}
 use Rattle.need_order.proofs.Settling.{way_on, way_once}

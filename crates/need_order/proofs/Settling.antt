@@ -7,7 +7,7 @@ use Rattle.std.proofs.lemmas.List.{length_push}
 use Rattle.std.proofs.lemmas.Map.Keys.{IsDistinct-push}
 use Rattle.std.proofs.lemmas.Map.Steps.{length-le_from_distinct_below}
 use Rattle.need_order.specs.Needs.{among, Leads, IsPath, IsWithin, HasCircle}
-use Rattle.need_order.specs.Gathering.{lacks, Gathering, gathering}
+use Rattle.need_order.specs.Gathering.{lacks, Gathering}
 use Rattle.need_order.specs.Settling.{Sweeps, Follows, settled, swept, IsSettled}
 use Rattle.need_order.proofs.Numbers.{among-cases, among-one, all_there, one_missing, lacks-some}
 

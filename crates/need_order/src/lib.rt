@@ -15,6 +15,7 @@ mod order;
 mod reach;
 mod search;
 mod settle;
+mod within;
 
 pub use count::counted;
 pub use depth::deep;
@@ -22,3 +23,4 @@ pub use element::Element;
 pub use fault::NeedFault;
 pub use laws::{circle_law, levels_law, order_law};
 pub use order::ordered;
+pub use within::is_within;

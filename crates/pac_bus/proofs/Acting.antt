@@ -1,30 +1,28 @@
 -- Acts one after the other.
-use Rattle.std.proofs.Common.{◌≡◌, Bool, true, false, List, [], ◌∷◌, ◌++◌, length, Option, Some, None, refl, sym, ap, subst, ◌∙◌, append_assoc, arith}
+use Rattle.std.proofs.Common.{ℕ, ◌≡◌, Bool, true, false, List, [], ◌∷◌, ◌++◌, length, Option, Some, None, refl, sym, ap, subst, ◌∙◌, append_assoc, arith}
 use Rattle.std.proofs.lemmas.List.{append-nil, length-append}
-use Rattle.pac_bus.specs.declared.access.BusAccess.{BusAccess}
-use Rattle.pac_bus.specs.Acts.{Gives, Act, Kept, kept_by, kept_by_access, Fits, FitsOne}
+use Rattle.pac_base.specs.declared.width.Width.{Width}
+use Rattle.pac_bus.specs.Acts.{given_after, Gives, Act, Kept, kept_by, kept_by_access, Fits, FitsOne}
 use Rattle.pac_bus.specs.Acts.Act.{sets, does}
 use Rattle.pac_bus.specs.Acts.Gives.{Free, Zeros}
 use Rattle.pac_bus.specs.Laws.{FitsEach}
 use Rattle.pac_bus.specs.Telling.{Device, BusTold, Did, accesses, presets, and_acts}
 
-free_by_access : (write : Bool) (access : BusAccess) → kept_by_access write Free access ≡ Free
-free_by_access true access = refl
-free_by_access false access = refl
+-- what no bytes change stays
+stays : (gives : Gives) → ((address : ℕ) (width : Width) (value : ℕ) → given_after gives address width value ≡ gives) → (acts : List Act) → Kept gives acts ≡ gives
+stays gives same [] = refl
+stays gives same (sets preset ∷ acts) = ap (λ (g : Gives). Kept g acts) (same preset.address preset.width preset.value) ∙ stays gives same acts
+stays gives same (does access ∷ acts) = ap (λ (g : Gives). Kept g acts) (by access.write) ∙ stays gives same acts
+  where
+    by : (write : Bool) → kept_by_access write gives access ≡ gives
+    by true = same access.address access.width access.value
+    by false = refl
 
 pub free_stays : (acts : List Act) → Kept Free acts ≡ Free
-free_stays [] = refl
-free_stays (sets preset ∷ acts) = free_stays acts
-free_stays (does access ∷ acts) = ap (λ (gives : Gives). Kept gives acts) (free_by_access access.write access) ∙ free_stays acts
-
-zeros_by_access : (write : Bool) (access : BusAccess) → kept_by_access write Zeros access ≡ Zeros
-zeros_by_access true access = refl
-zeros_by_access false access = refl
+free_stays = stays Free (λ address width value. refl)
 
 pub zeros_stay : (acts : List Act) → Kept Zeros acts ≡ Zeros
-zeros_stay [] = refl
-zeros_stay (sets preset ∷ acts) = zeros_stay acts
-zeros_stay (does access ∷ acts) = ap (λ (gives : Gives). Kept gives acts) (zeros_by_access access.write access) ∙ zeros_stay acts
+zeros_stay = stays Zeros (λ address width value. refl)
 
 pub kept_in_turn : (gives : Gives) (acts more : List Act) → Kept gives (acts ++ more) ≡ Kept (Kept gives acts) more
 kept_in_turn gives [] more = refl

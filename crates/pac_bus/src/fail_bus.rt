@@ -1,10 +1,10 @@
 ghost use Rattle.std.specs.Prelude.{◌≡◌, ◌≤◌, ◌<◌, ◌+◌, ◌^◌, is_err, OnOk, OnErr};
 ghost use Rattle.pac_base.specs.Widths.{bits_of};
-ghost use Rattle.pac_bus.specs.Answers.{Reads, Writes, a_write};
+ghost use Rattle.pac_bus.specs.Answers.{Failed, Reads, Writes, a_write};
 ghost use Rattle.pac_bus.specs.FailBus.{CountsAccess, HoldsNothing, ListsAccess, SameBus, fail_told, fails_next};
 ghost use Rattle.pac_bus.specs.Widths.{bytes_of};
 
-use crate::access::{BusAccess, BusFailed, Preset};
+use crate::access::BusFailed;
 use crate::bus::Bus;
 use crate::device_row::DevRows;
 use crate::journal::Journal;
@@ -46,14 +46,19 @@ impl FailBus {
         Ok(())
     }
 
-    /// Counts one more access, and answers whether it is to fail.
-    fn begin(&mut self) -> bool
-        ensures fails { result ≡ fails_next self.old }
+    /// Counts one more access, which fails if it is listed.
+    fn begin(&mut self) -> Result<(), BusFailed>
+        ensures failed { is_err result ≡ fails_next self.old }
         ensures counts { CountsAccess self.old self.new }
-        ensures told { fail_told self.new ≡ fail_told self.old }
+        ensures same { OnOk result (fail_told self.new ≡ fail_told self.old) }
+        ensures rose { OnErr result (Failed (fail_told self.old) (fail_told self.new)) }
     {
         self.made = self.made.saturating_add(1);
-        self.listed.contains(&self.made)
+        if self.listed.contains(&self.made) {
+            self.faults = self.faults.saturating_add(1);
+            return Err(BusFailed);
+        }
+        Ok(())
     }
 }
 
@@ -65,11 +70,7 @@ impl Bus for FailBus {
     }
 
     fn preset(&mut self, address: u64, width: Width, value: u64) -> Result<(), NoMemory> {
-        self.journal.preset(Preset {
-            address,
-            width,
-            value,
-        })
+        self.journal.preset(address, width, value)
     }
 
     fn read(&mut self, address: u64, width: Width) -> Result<u64, BusFailed>
@@ -81,16 +82,8 @@ impl Bus for FailBus {
         ensures failed { is_err result ≡ fails_next self.old }
         ensures counts { CountsAccess self.old self.new }
     {
-        if self.begin() {
-            self.faults = self.faults.saturating_add(1);
-            return Err(BusFailed);
-        }
-        self.journal.access(BusAccess {
-            write: false,
-            address,
-            width,
-            value: 0,
-        });
+        self.begin()?;
+        self.journal.read(address, width, 0);
         Ok(0)
     }
 
@@ -104,16 +97,8 @@ impl Bus for FailBus {
         ensures failed { is_err result ≡ fails_next self.old }
         ensures counts { CountsAccess self.old self.new }
     {
-        if self.begin() {
-            self.faults = self.faults.saturating_add(1);
-            return Err(BusFailed);
-        }
-        self.journal.access(BusAccess {
-            write: true,
-            address,
-            width,
-            value,
-        });
+        self.begin()?;
+        self.journal.write(address, width, value);
         Ok(())
     }
 

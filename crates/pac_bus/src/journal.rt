@@ -1,7 +1,9 @@
-ghost use Rattle.std.specs.Prelude.{◌≡◌, ◌≤◌, ◌+◌, ◌∷◌, ◌++◌, [], OnOk, OnErr};
+ghost use Rattle.std.specs.Prelude.{◌≡◌, ◌≤◌, [], OnOk, OnErr};
+ghost use Rattle.pac_bus.specs.Answers.{a_preset, a_read, a_write};
+ghost use Rattle.pac_bus.specs.Journals.{IsLogged, IsPreset};
 
 use crate::access::{BusAccess, Preset};
-use pac_base::NoMemory;
+use pac_base::{NoMemory, Width};
 use std::alloc::Global;
 use std::marker::Model;
 
@@ -43,20 +45,47 @@ impl Journal {
     }
 
     /// Adds a preset.
-    pub(crate) fn preset(&mut self, preset: Preset) -> Result<(), NoMemory>
-        ensures ok { OnOk result (self.new ≡ record self.old { set = self.old.set ++ preset ∷ [] }) }
+    pub(crate) fn preset(&mut self, address: u64, width: Width, value: u64) -> Result<(), NoMemory>
+        ensures ok { OnOk result (IsPreset self.old self.new (a_preset address width value)) }
         ensures refused { OnErr result (self.new ≡ self.old) }
     {
-        self.presets.push(preset)?;
+        self.presets.push(Preset {
+            address,
+            width,
+            value,
+        })?;
         Ok(())
     }
 
-    /// Adds an access, for which there is room.
-    pub(crate) fn access(&mut self, access: BusAccess)
+    /// Adds a read, for which there is room.
+    pub(crate) fn read(&mut self, address: u64, width: Width, value: u64)
         requires { 1 ≤ self.old.spare }
-        ensures log { self.new.log ≡ self.old.log ++ access ∷ [] }
-        ensures set { self.new.set ≡ self.old.set }
-        ensures spare { self.old.spare ≤ self.new.spare + 1 }
+        ensures { IsLogged self.old self.new (a_read address width value) }
+    {
+        self.access(BusAccess {
+            write: false,
+            address,
+            width,
+            value,
+        });
+    }
+
+    /// Adds a write, for which there is room.
+    pub(crate) fn write(&mut self, address: u64, width: Width, value: u64)
+        requires { 1 ≤ self.old.spare }
+        ensures { IsLogged self.old self.new (a_write address width value) }
+    {
+        self.access(BusAccess {
+            write: true,
+            address,
+            width,
+            value,
+        });
+    }
+
+    fn access(&mut self, access: BusAccess)
+        requires { 1 ≤ self.old.spare }
+        ensures { IsLogged self.old self.new access }
     {
         match self.accesses.push(access) {
             Ok(()) => (),

@@ -7,7 +7,7 @@ ghost use Rattle.pac_bus.specs.Memory.{zeros};
 ghost use Rattle.pac_bus.specs.Telling.{HoldsNothing};
 ghost use Rattle.pac_bus.specs.Widths.{bytes_of};
 
-use crate::access::{BusAccess, BusFailed, Preset};
+use crate::access::BusFailed;
 use crate::bus::Bus;
 use crate::device_row::DevRows;
 use crate::journal::Journal;
@@ -49,11 +49,7 @@ impl Bus for MemBus {
 
     fn preset(&mut self, address: u64, width: Width, value: u64) -> Result<(), NoMemory> {
         self.store.hold_all(address, width.bytes())?;
-        self.journal.preset(Preset {
-            address,
-            width,
-            value,
-        })?;
+        self.journal.preset(address, width, value)?;
         self.store.put_value(address, width.bytes(), value);
         Ok(())
     }
@@ -65,12 +61,7 @@ impl Bus for MemBus {
         ensures never_fails { IsOk result }
     {
         let value = self.store.value(address, width.bytes());
-        self.journal.access(BusAccess {
-            write: false,
-            address,
-            width,
-            value,
-        });
+        self.journal.read(address, width, value);
         Ok(value)
     }
 
@@ -82,12 +73,7 @@ impl Bus for MemBus {
         ensures never_fails { IsOk result }
     {
         self.store.put_value(address, width.bytes(), value);
-        self.journal.access(BusAccess {
-            write: true,
-            address,
-            width,
-            value,
-        });
+        self.journal.write(address, width, value);
         Ok(())
     }
 

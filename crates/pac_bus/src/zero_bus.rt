@@ -5,7 +5,7 @@ ghost use Rattle.pac_bus.specs.Telling.{HoldsNothing};
 ghost use Rattle.pac_bus.specs.Widths.{bytes_of};
 ghost use Rattle.pac_bus.specs.ZeroBus.{zero_told};
 
-use crate::access::{BusAccess, BusFailed, Preset};
+use crate::access::BusFailed;
 use crate::bus::Bus;
 use crate::device_row::DevRows;
 use crate::journal::Journal;
@@ -37,11 +37,7 @@ impl Bus for ZeroBus {
     }
 
     fn preset(&mut self, address: u64, width: Width, value: u64) -> Result<(), NoMemory> {
-        self.journal.preset(Preset {
-            address,
-            width,
-            value,
-        })
+        self.journal.preset(address, width, value)
     }
 
     fn read(&mut self, address: u64, width: Width) -> Result<u64, BusFailed>
@@ -50,12 +46,7 @@ impl Bus for ZeroBus {
         ensures read { Reads result (zero_told self.old) (zero_told self.new) address width }
         ensures never_fails { IsOk result }
     {
-        self.journal.access(BusAccess {
-            write: false,
-            address,
-            width,
-            value: 0,
-        });
+        self.journal.read(address, width, 0);
         Ok(0)
     }
 
@@ -66,12 +57,7 @@ impl Bus for ZeroBus {
         ensures written { Writes result (zero_told self.old) (zero_told self.new) (a_write address width value) }
         ensures never_fails { IsOk result }
     {
-        self.journal.access(BusAccess {
-            write: true,
-            address,
-            width,
-            value,
-        });
+        self.journal.write(address, width, value);
         Ok(())
     }
 
