@@ -37,6 +37,7 @@ fn whole_64_bit_word(rt: HostRuntime) -> Result<(), Fail> {
         name: Name::new(rt.alloc(), b"v")?,
         offset: 0,
         width: 64,
+        dim: None,
         readable: true,
         writable: true,
         kind: WriteKind::Modify,
