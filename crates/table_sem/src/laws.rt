@@ -1,0 +1,4 @@
+// The laws of tables.
+
+/// Nothing yet.
+pub fn start_law() {}
