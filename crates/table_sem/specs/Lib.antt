@@ -8,3 +8,6 @@ pub mod TableSurface
 pub mod RowFacts
 pub mod WorkedTables
 pub mod Worked
+pub mod SurfaceWalk
+pub mod Entries
+pub mod Laws

@@ -4,4 +4,4 @@
 
 mod laws;
 
-pub use laws::start_law;
+pub use laws::{member_law, row_law, run_law, start_law, surface_law};
