@@ -97,17 +97,20 @@ own-row name path address props step keys children names = by (is_of register st
 
     by : (b : Bool) → is_of register step ≡ b → AllByRecursion (HasEntry (own_entry name props step keys children)) (cond b (here ∷ []) [])
     by false is = tt
-    by true is = (record {
-      before = [];
-      entry = entry_of name (calls_here props step keys children);
-      behind = [];
-      stands = ap (λ b. cond b (entry_of name (calls_here props step keys children) ∷ []) []) (named-register step is);
-      is_of = record {
-        slot = names.0;
-        leads = names.1;
-        calls = ap (λ b. cond b (Some (row_calls here)) None) is;
-      };
-    }, tt)
+    by true is = (
+      record {
+        before = [];
+        entry = entry_of name (calls_here props step keys children);
+        behind = [];
+        stands = ap (λ b. cond b (entry_of name (calls_here props step keys children) ∷ []) []) (named-register step is);
+        is_of = record {
+          slot = names.0;
+          leads = names.1;
+          calls = ap (λ b. cond b (Some (row_calls here)) None) is;
+        };
+      },
+      tt,
+    )
 
 -- the rows of all members have what those of each have
 each-member : (P : TableRow → Type 0) (dim : Option ℕ) (member : Option ℕ → List TableRow) → ((index : Option ℕ) → IsIndexOf dim index → AllByRecursion P (member index)) → (indexes : List (Option ℕ)) → AllByRecursion (IsIndexOf dim) indexes → AllByRecursion P (flat_map member indexes)

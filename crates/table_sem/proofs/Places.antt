@@ -80,7 +80,7 @@ module _ (m o d w v : ℕ) (small : w < 2 ^ (m + o)) where
       (shifted_cut m o (ones (d + m)) ∙ (ap (λ (k : ℕ). k * 2 ^ o) (ones_cut d m ∙ sym (mod-eq_of_lt fewer)) ∙ sym (shifted_cut m o (ones m))))
       (ap (λ (k : ℕ). k * 2 ^ o % 2 ^ (m + o)) (and_mask v (d + m))
       ∙ (shifted_cut m o (v % 2 ^ (d + m))
-      ∙ (ap (λ (k : ℕ). k * 2 ^ o) (mod-mod-pow v d m ∙ sym (mod-eq_of_lt (mod-lt v (some_power m)) ))
+      ∙ (ap (λ (k : ℕ). k * 2 ^ o) (mod-mod-pow v d m ∙ sym (mod-eq_of_lt (mod-lt v (some_power m))))
       ∙ (sym (shifted_cut m o (v % 2 ^ m)) ∙ ap (λ (k : ℕ). k * 2 ^ o % 2 ^ (m + o)) (sym (and_mask v m))))))
     where
       fewer : ones m < 2 ^ m
