@@ -1,24 +1,22 @@
 -- Each row of the table has its entry in the surface.
-use Rattle.std.proofs.Common.{ℕ, zero, suc, ◌≡◌, ◌+◌, ◌<◌, ◌≤◌, Bool, true, false, ◌||◌, cond, List, [], ◌∷◌, ◌++◌, map, flat_map, Option, Some, None, refl, sym, ap, ap₂, subst, ◌∙◌, append_assoc, arith}
+use Rattle.std.proofs.Common.{ℕ, zero, suc, ◌≡◌, ◌+◌, ◌≤◌, Bool, true, false, ◌||◌, cond, List, [], ◌∷◌, ◌++◌, map, flat_map, Option, Some, None, refl, sym, ap, subst, ◌∙◌, append_assoc, arith}
 use Rattle.std.specs.List.{AllByRecursion, range_with_len}
-use Rattle.frag_sem.specs.Surfaces.{Entry, Step as Accessor, Surface}
+use Rattle.frag_sem.specs.Surfaces.{Step as Accessor, Surface}
 use Rattle.pac_base.specs.declared.path.Step.{Step as NamedStep}
-use Rattle.reg_table.specs.Registers.{register_row, table_of}
+use Rattle.reg_table.specs.Registers.{register_row}
 use Rattle.reg_table.specs.Walk.{path_inside, peripheral_path, props_inside, rows_in, rows_of_peripherals}
 use Rattle.reg_table.specs.declared.row.Row.{Row as TableRow}
 use Rattle.reg_table.specs.declared.row.RowPath.{RowPath}
 use Rattle.reg_table.proofs.Exchanges.{every-append}
 use Rattle.reg_table.proofs.Tables.{table-rows}
-use Rattle.svd_model.specs.declared.device.Device.{Device}
 use Rattle.svd_model.specs.declared.props.Props.{Props}
-use Rattle.svd_model.specs.Facts.{IsUnfolded}
 use Rattle.svd_model.specs.Keys.{Key}
 use Rattle.svd_model.specs.Stating.{value_of, stated_dim, indexes_of, is_of, start_of}
 use Rattle.svd_model.specs.Steps.{Step, cluster, peripheral, register}
 use Rattle.svd_model.specs.Trees.{device_rows, device_tree}
 use Rattle.svd_rows.specs.Forest.{Forest, leaf, node}
 use Rattle.svd_rows.specs.Rows.{rows}
-use Rattle.table_sem.specs.Entries.{HasEntry, IsEntryOf, LeadsOver}
+use Rattle.table_sem.specs.Entries.{HasEntry, LeadsOver}
 use Rattle.table_sem.specs.Laws.{RowsHaveEntries}
 use Rattle.table_sem.specs.Members.{IsIndexOf}
 use Rattle.table_sem.specs.Names.{Named, accessor_of, is_named}
@@ -28,7 +26,7 @@ use Rattle.table_sem.proofs.Surfaces.{surface_by_walk}
 
 -- ---- more entries
 
-every-weaker : {X : Type 0} (P Q : X → Type 0) → ((x : X) → P x → Q x) → (xs : List X) → AllByRecursion P xs → AllByRecursion Q xs
+pub every-weaker : {X : Type 0} (P Q : X → Type 0) → ((x : X) → P x → Q x) → (xs : List X) → AllByRecursion P xs → AllByRecursion Q xs
 every-weaker P Q weaker [] all = tt
 every-weaker P Q weaker (x ∷ xs) all = (weaker x all.0, every-weaker P Q weaker xs all.1)
 

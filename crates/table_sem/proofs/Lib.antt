@@ -5,3 +5,4 @@ pub mod Surfaces
 pub mod Entries
 pub mod Rows
 pub mod Walks
+pub mod EntryRows

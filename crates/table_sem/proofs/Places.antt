@@ -1,6 +1,6 @@
 -- Places in words, and the members of fields.
 use Rattle.std.proofs.Common.{ℕ, ◌≡◌, ◌+◌, ◌-◌, ◌*◌, ◌/◌, ◌%◌, ◌^◌, ◌<◌, ◌≤◌, Bool, true, false, refl, sym, ap, ap₂, ◌∙◌, subst, arith, bit_and, bit_or, mod-lt, mod-eq_of_lt, add-mul, div-add-mod'}
-use Rattle.std.specs.Prelude.{nat_le, Option}
+use Rattle.std.specs.Prelude.{nat_le}
 use Rattle.std.proofs.Math.Nat.{mul_assoc, mul-le-mul_right, mul-mod_left, add-mul-mod_self_right, div-eq_of_lt, pow-le-pow_right, zero-mod}
 use Rattle.std.proofs.Math.Pow.{mod-mod-pow}
 use Rattle.std.proofs.lemmas.Bool.Decides.{nat_tests}
@@ -8,7 +8,7 @@ use Rattle.std.proofs.lemmas.Nat.{and_mask, mod-mul-add, pow-add}
 use Rattle.bits_word.specs.Places.{get, put}
 use Rattle.bits_word.proofs.Bits.{get-and, scaled_below}
 use Rattle.pac_base.specs.Widths.{bits_of}
-use Rattle.frag_sem.specs.PreludeWords.{complement, ones, shifted_up, start_word, taken, written}
+use Rattle.frag_sem.specs.PreludeWords.{complement, ones, start_word, taken, written}
 use Rattle.frag_sem.proofs.Words.{reads_written, some_power, start_plain, writer_puts, written_small}
 use Rattle.table_sem.specs.Laws.{MemberIsPut, MemberReadsBack, WrittenIsPut}
 use Rattle.table_sem.specs.Members.{member_at}

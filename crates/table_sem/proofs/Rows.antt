@@ -1,5 +1,5 @@
 -- What the row of a declared register has, where checking finds no fault in it.
-use Rattle.std.proofs.Common.{ℕ, zero, suc, ◌≡◌, ◌+◌, ◌-◌, ◌*◌, ◌/◌, ◌%◌, ◌^◌, ◌<◌, ◌≤◌, Bool, true, false, not, cond, ◌&&◌, ◌||◌, List, [], ◌∷◌, map, filter, find, filter_map, Option, Some, None, IfSome, refl, sym, ap, ap₂, subst, ◌∙◌, arith, lit≤, zero-add}
+use Rattle.std.proofs.Common.{ℕ, zero, suc, ◌≡◌, ◌+◌, ◌-◌, ◌*◌, ◌/◌, ◌^◌, ◌<◌, ◌≤◌, Bool, true, false, cond, ◌&&◌, ◌||◌, List, [], ◌∷◌, map, filter, filter_map, Option, Some, None, IfSome, refl, sym, ap, ap₂, subst, ◌∙◌, arith, lit≤, zero-add}
 use Rattle.std.specs.Prelude.{nat_lt, unwrap_or}
 use Rattle.std.specs.List.{AllByRecursion, cons_option}
 use Rattle.std.proofs.lemmas.Bool.{ltb-true}
@@ -32,7 +32,7 @@ use Rattle.svd_values.specs.AccessorNames.{is_call_name, variant_call_name}
 use Rattle.svd_values.specs.declared.schema_word.Usage.{Usage}
 use Rattle.svd_values.specs.declared.schema_word.WriteKind.{WriteKind}
 use Rattle.table_sem.specs.Laws.{TypeIsLeast}
-use Rattle.table_sem.specs.Members.{IsIndexOf, member_at, member_count}
+use Rattle.table_sem.specs.Members.{IsIndexOf}
 use Rattle.table_sem.specs.RowFacts.{FieldFits, RowFits}
 use Rattle.table_sem.proofs.StartNumbers.{number_small}
 

@@ -1,8 +1,7 @@
 -- What a register of the table keeps, and the events of a script against a table.
-use Rattle.std.proofs.Common.{ℕ, ◌≡◌, ◌%◌, ◌^◌, ◌<◌, Bool, true, false, cond, List, [], ◌∷◌, find, Option, Some, None, IfSome, option_map, bytes_eq, mod-lt}
+use Rattle.std.proofs.Common.{ℕ, ◌^◌, ◌<◌, Bool, true, false, cond, List, [], ◌∷◌, find, Option, Some, None, IfSome, option_map, bytes_eq, mod-lt}
 use Rattle.std.specs.List.{AllByRecursion}
 use Rattle.pac_base.specs.Widths.{bits_of}
-use Rattle.bits_word.specs.Places.{put}
 use Rattle.frag_tree.specs.declared.statement.Place.{Place}
 use Rattle.frag_sem.specs.Meaning.{meaning}
 use Rattle.frag_sem.specs.Presets.{called_places, presets}
@@ -11,7 +10,7 @@ use Rattle.frag_sem.proofs.Words.{some_power}
 use Rattle.reg_table.specs.declared.row.FieldRow.{FieldRow}
 use Rattle.reg_table.specs.declared.row.Row.{Row as TableRow}
 use Rattle.table_sem.specs.Laws.{PresetsInRange, RowKeepsWords, RunInRange, RunIsAnswered}
-use Rattle.table_sem.specs.RowActs.{field_put, row_acts, row_found, row_put, writable_fields}
+use Rattle.table_sem.specs.RowActs.{field_put, row_acts, row_found, writable_fields}
 use Rattle.table_sem.specs.RowFacts.{RowFits}
 use Rattle.table_sem.specs.TableMeaning.{is_at, row_at, table_presets, table_run}
 use Rattle.table_sem.proofs.StartNumbers.{start_stays}

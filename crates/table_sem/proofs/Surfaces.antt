@@ -1,29 +1,26 @@
 -- The surface of flat rows is that of a walk of the tree.
-use Rattle.std.proofs.Common.{ℕ, suc, ◌≡◌, ◌+◌, Bool, true, false, cond, List, [], ◌∷◌, ◌++◌, length, map, filter, Some, None, refl, sym, ap, ap₂, ◌∙◌, arith}
+use Rattle.std.proofs.Common.{suc, ◌≡◌, Bool, true, false, cond, List, [], ◌∷◌, ◌++◌, length, map, filter, Some, None, refl, sym, ap, ap₂, ◌∙◌, arith}
 use Rattle.std.proofs.lemmas.List.{map-append}
 use Rattle.std.proofs.lemmas.List.Elements.{filter-append}
-use Rattle.frag_sem.specs.Surfaces.{Entry, Step as Accessor}
+use Rattle.frag_sem.specs.Surfaces.{Entry}
 use Rattle.reg_table.specs.Registers.{register_row}
 use Rattle.reg_table.specs.Walk.{props_inside}
 use Rattle.reg_table.proofs.Tables.{device-holds, distinct-steps, ends-with, length-snoc, properties-down}
-use Rattle.svd_model.specs.declared.device.Device.{Device}
-use Rattle.svd_model.specs.declared.props.Props.{Props}
-use Rattle.svd_model.specs.Facts.{IsUnfolded}
 use Rattle.svd_model.specs.Keys.{Key}
 use Rattle.svd_model.specs.Stating.{is_of, properties_of}
 use Rattle.svd_model.specs.Steps.{Step, register}
-use Rattle.svd_model.specs.Trees.{device_places, device_rows, device_tree}
-use Rattle.svd_model.specs.Visits.{Visit, visit_below, visits, visits_of}
+use Rattle.svd_model.specs.Trees.{device_places, device_tree}
+use Rattle.svd_model.specs.Visits.{Visit, visit_below, visits}
 use Rattle.svd_model.proofs.Walking.{walk-rows}
 use Rattle.svd_rows.specs.Forest.{Forest, leaf, node}
 use Rattle.svd_rows.specs.LookUps.{ends_with}
 use Rattle.svd_rows.specs.Ranks.{stated}
-use Rattle.svd_rows.specs.Rows.{Row, rows}
+use Rattle.svd_rows.specs.Rows.{rows}
 use Rattle.svd_values.specs.AccessorNames.{slot_name_of}
 use Rattle.table_sem.specs.Laws.{SurfaceByWalk, SurfaceIsNamed, name_of_entry}
-use Rattle.table_sem.specs.Names.{Named, accessor_of, accessors_on, is_named, named, named_visits, names_of}
-use Rattle.table_sem.specs.SurfaceWalk.{calls_here, entries_in, entries_of_peripherals, own_entry, peripheral_name}
-use Rattle.table_sem.specs.TableSurface.{entry_of, no_path, row_calls, table_surface, visit_calls, visit_entry}
+use Rattle.table_sem.specs.Names.{accessor_of, accessors_on, is_named, named, named_visits, names_of}
+use Rattle.table_sem.specs.SurfaceWalk.{entries_in, entries_of_peripherals, own_entry, peripheral_name}
+use Rattle.table_sem.specs.TableSurface.{entry_of, no_path, row_calls, table_surface, visit_entry}
 
 -- ---- names
 

@@ -1,36 +1,31 @@
 -- The rows that a walk of a checked description meets fit.
-use Rattle.std.proofs.Common.{ℕ, zero, suc, ◌≡◌, ◌+◌, ◌*◌, ◌<◌, ◌≤◌, List, [], ◌∷◌, ◌++◌, map, flat_map, Option, Some, None, refl, sym, ap, ap₂, subst, ◌∙◌, arith, append-nil}
-use Rattle.std.specs.Prelude.{unwrap_or}
+use Rattle.std.proofs.Common.{ℕ, zero, suc, ◌+◌, ◌≤◌, List, [], ◌∷◌, map, flat_map, Option, Some, None, sym, ap, subst, ◌∙◌, arith, append-nil}
 use Rattle.std.specs.List.{AllByRecursion, range_with_len}
-use Rattle.reg_table.specs.Registers.{table_of}
 use Rattle.reg_table.specs.Walk.{AllFit, FitIn, IsAmong, member_rows, path_inside, peripheral_path, rows_in, rows_of_peripherals}
-use Rattle.reg_table.specs.declared.row.Row.{Row as TableRow}
 use Rattle.reg_table.specs.declared.row.RowPath.{RowPath}
 use Rattle.reg_table.proofs.Exchanges.{every-append}
 use Rattle.reg_table.proofs.Faults.{checked-fits}
 use Rattle.reg_table.proofs.Tables.{table-rows}
-use Rattle.reg_table.proofs.Walks.{fit-cluster, fit-first, fit-others, fit-peripheral, fit-register, rows-cluster, rows-first, rows-no_peripherals, rows-nothing, rows-peripheral, rows-register}
+use Rattle.reg_table.proofs.Walks.{fit-cluster, fit-others, fit-peripheral, fit-register, rows-cluster, rows-first, rows-no_peripherals, rows-nothing, rows-peripheral, rows-register}
 use Rattle.svd_model.specs.declared.device.Child.{Child, map-Child, roll-Child}
 use Rattle.svd_model.specs.declared.device.Child.TheVariants.{rolls-Cluster, rolls-Register}
 use Rattle.svd_model.specs.declared.device.Child.TheFolds.{ind-Item}
 use Rattle.svd_model.specs.declared.device.Child.TheOpen.{Child-F, Cluster-F, Item-F}
 use Rattle.svd_model.specs.declared.device.Child.TheOpen as opened
 use Rattle.svd_model.specs.declared.device.Cluster.{Cluster, out-Cluster, out-roll-Cluster, roll-Cluster}
-use Rattle.svd_model.specs.declared.device.Device.{Device}
 use Rattle.svd_model.specs.declared.device.Item.{Item, roll-Item}
 use Rattle.svd_model.specs.declared.device.Peripheral.{Peripheral}
 use Rattle.svd_model.specs.declared.device.Register.{Register}
 use Rattle.svd_model.specs.declared.props.Props.{Props}
 use Rattle.svd_model.specs.declared.sibling.Sibling.{Sibling}
-use Rattle.svd_model.specs.Facts.{IsChecked}
 use Rattle.svd_model.specs.Keys.{Key}
 use Rattle.svd_model.specs.Properties.{holding}
 use Rattle.svd_model.specs.Stating.{value_of, stated_dim, indexes_of}
 use Rattle.svd_model.specs.Steps.{Kind, Step}
-use Rattle.svd_model.specs.Trees.{child_tree, cluster_tree, device_rows, device_tree, item_under, peripheral_under, step_of}
+use Rattle.svd_model.specs.Trees.{child_tree, device_tree, item_under, peripheral_under, step_of}
 use Rattle.svd_model.specs.Unbuilt.{cluster_under, register_under}
 use Rattle.svd_model.proofs.Stated.{cluster-dim, register-dim}
-use Rattle.svd_model.proofs.Trees.{child_tree-cluster, child_tree-register, cluster_tree-is, cluster_tree-roll, item_under-roll}
+use Rattle.svd_model.proofs.Trees.{child_tree-cluster, child_tree-register, cluster_tree-is, item_under-roll}
 use Rattle.svd_rows.specs.Forest.{Tree, siblings}
 use Rattle.table_sem.specs.Laws.{CheckedRowsFit}
 use Rattle.table_sem.specs.RowFacts.{RowFits}

@@ -19,7 +19,7 @@ use Rattle.svd_model.specs.Keys.{Key}
 use Rattle.svd_model.specs.Steps.{Step}
 use Rattle.svd_model.specs.Trees.{device_rows, device_tree}
 use Rattle.svd_rows.specs.Rows.{Row}
-use Rattle.table_sem.specs.Entries.{HasEntry}
+use Rattle.table_sem.specs.Entries.{HasEntry, HasRows}
 use Rattle.table_sem.specs.Members.{IsIndexOf, member_at, member_count, member_get, member_put}
 use Rattle.table_sem.specs.Names.{Named, names_of}
 use Rattle.table_sem.specs.RowActs.{row_acts}
@@ -102,6 +102,10 @@ SurfaceIsNamed = (all : List (Row Step Key)) → map name_of_entry (table_surfac
 -- Each row of the table has its entry, with its calls: its path is the entry's name with an index below each count.
 abbrev pub RowsHaveEntries : Type 0
 RowsHaveEntries = (device : Device) → IsUnfolded device → AllByRecursion (HasEntry (table_surface (device_rows device))) (table_of (device_rows device))
+
+-- For each entry of a register, and all indexes below its counts, the table has a row of that path with just the entry's calls.
+abbrev pub EntriesHaveRows : Type 0
+EntriesHaveRows = (device : Device) → IsUnfolded device → AllByRecursion (HasRows (table_of (device_rows device))) (table_surface (device_rows device))
 
 -- A walk of the description's tree meets the entries of the surface.
 abbrev pub SurfaceByWalk : Type 0

@@ -1,5 +1,5 @@
 -- The surface of a description by a walk of its tree. The law that joins it with the flat rows is `surface_law`.
-use Rattle.std.specs.Prelude.{ℕ, cond, List, [], ◌∷◌, ◌++◌, Option, Some, None}
+use Rattle.std.specs.Prelude.{cond, List, [], ◌∷◌, ◌++◌, Option, Some, None}
 use Rattle.frag_sem.specs.Surfaces.{Entry, RegisterCalls}
 use Rattle.reg_table.specs.Registers.{register_row}
 use Rattle.reg_table.specs.Walk.{props_inside}

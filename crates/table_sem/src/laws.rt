@@ -1,5 +1,5 @@
 // The laws of register tables.
-ghost use Rattle.table_sem.specs.Laws.{CheckedRowsFit, MemberIsPut, MemberReadsBack, PresetsInRange, RowKeepsWords, RowsHaveEntries, RunInRange, RunIsAnswered, StartIsOne, StartIsStart, StartStays, SurfaceByWalk, SurfaceIsNamed, TypeIsLeast, WrittenIsPut};
+ghost use Rattle.table_sem.specs.Laws.{CheckedRowsFit, EntriesHaveRows, MemberIsPut, MemberReadsBack, PresetsInRange, RowKeepsWords, RowsHaveEntries, RunInRange, RunIsAnswered, StartIsOne, StartIsStart, StartStays, SurfaceByWalk, SurfaceIsNamed, TypeIsLeast, WrittenIsPut};
 
 /// The word from which a write starts has the bits that the rule says, and is the one word of its width
 /// that has them.
@@ -33,9 +33,11 @@ pub fn run_law()
 {}
 
 /// The surface has an entry for each peripheral, cluster and register, by its name, and it is met by a walk
-/// of the tree. What it says of a register is what each row of that name says.
+/// of the tree. What it says of a register is what each row of that name says, and wherever it leads to a
+/// register there is such a row.
 pub fn surface_law()
     ensures names { SurfaceIsNamed }
     ensures rows { RowsHaveEntries }
+    ensures entries { EntriesHaveRows }
     ensures walk { SurfaceByWalk }
 {}

@@ -1,4 +1,5 @@
 use Rattle.table_sem.proofs.Entries.{rows_have_entries}
+use Rattle.table_sem.proofs.EntryRows.{entries_have_rows}
 use Rattle.table_sem.proofs.Surfaces.{surface_by_walk, surface_is_named}
 use Rattle.table_sem.proofs.laws.surface_law.Goals as goal
 
@@ -10,3 +11,6 @@ returns-clause-rows c = rows_have_entries
 
 pub returns-clause-walk : goal.returns-clause-walk
 returns-clause-walk c = surface_by_walk
+
+pub returns-clause-entries : goal.returns-clause-entries
+returns-clause-entries c = entries_have_rows
