@@ -1,5 +1,5 @@
 #!/usr/bin/env bash
-# Times reading and printing crate texts of growing size beside `cat` of the same bytes.
+# Times reading and printing crate texts of growing size, of both versions, beside `cat` of the same bytes.
 top="$(cd "$(dirname "$0")/.." && pwd)" || exit 2
 program="$top/crates/frag_echo/out/frag_echo"
 [ -x "$program" ] || { echo "build the program first: cd $top/crates/frag_echo && rt run < stdin" >&2; exit 2; }
@@ -7,11 +7,12 @@ program="$top/crates/frag_echo/out/frag_echo"
 needs python3
 input="$folder/crate.rs"
 
-printf '%5s %9s %9s %9s %11s %12s\n' MB 'read s' 'both s' 'cat s' 'both/cat' 'memory/text'
+printf '%7s %5s %9s %9s %9s %11s %12s\n' version MB 'read s' 'both s' 'cat s' 'both/cat' 'memory/text'
+for version in 1 2; do
 for megabytes in 10 40 80; do
-    python3 - "$megabytes" "$folder/crate.rs" <<'PYTHON'
+    python3 - "$version" "$megabytes" "$folder/crate.rs" <<'PYTHON'
 import sys
-size, name = int(sys.argv[1]) * 1000 * 1000, sys.argv[2]
+version, size, name = int(sys.argv[1]), int(sys.argv[2]) * 1000 * 1000, sys.argv[3]
 WRITERS = ["BitWriter", "BitWriter1C", "BitWriter0S"]
 
 def register(n):
@@ -22,13 +23,15 @@ def register(n):
     head += [f"        pub struct F{f}_F;" for f in range(6)]
     reads, writes = ["        impl R<Spec> {"], ["        impl W<Spec> {"]
     for f in range(6):
+        # in version 2 every third field takes an index
+        index, spot = (", n: usize", f"at_bit({4 * f}, 4, 2, n)") if version == 2 and f % 3 == 0 else ("", 4 * f)
         if f % 2:
-            reads.append(f"            pub fn f{f}(&self) -> FieldReader<F{f}_F, u8> {{ FieldReader::new(((self.bits >> {4 * f}) & 0x7) as u8) }}")
-            writes.append(f"            pub fn f{f}(&mut self) -> FieldWriter<'_, Spec, F{f}_F, u8, 3> {{ FieldWriter::new(self, {4 * f}) }}")
+            reads.append(f"            pub fn f{f}(&self{index}) -> FieldReader<F{f}_F, u8> {{ FieldReader::new(((self.bits >> {spot}) & 0x7) as u8) }}")
+            writes.append(f"            pub fn f{f}(&mut self{index}) -> FieldWriter<'_, Spec, F{f}_F, u8, 3> {{ FieldWriter::new(self, {spot}) }}")
         else:
             kind = WRITERS[f // 2]
-            reads.append(f"            pub fn f{f}(&self) -> BitReader<F{f}_F> {{ BitReader::new(((self.bits >> {4 * f}) & 0x1) != 0x0) }}")
-            writes.append(f"            pub fn f{f}(&mut self) -> {kind}<'_, Spec, F{f}_F> {{ {kind}::new(self, {4 * f}) }}")
+            reads.append(f"            pub fn f{f}(&self{index}) -> BitReader<F{f}_F> {{ BitReader::new(((self.bits >> {spot}) & 0x1) != 0x0) }}")
+            writes.append(f"            pub fn f{f}(&mut self{index}) -> {kind}<'_, Spec, F{f}_F> {{ {kind}::new(self, {spot}) }}")
     values = ["        impl BitReader<F0_F> {", "            pub fn is_off(&self) -> bool { self.bit() == false }", "            pub fn is_on(&self) -> bool { self.bit() == true }", "        }",
               "        impl<'a> BitWriter<'a, Spec, F0_F> {", "            pub fn off(self) -> &'a mut W<Spec> { self.bit(false) }", "            pub fn on(self) -> &'a mut W<Spec> { self.bit(true) }", "        }"]
     return head + reads + ["        }"] + writes + ["        }"] + values + ["    }"]
@@ -46,6 +49,8 @@ def block(n):
 each = len(block(0))
 count = max(1, size // each)
 with open(name, "w") as out:
+    if version == 2:
+        out.write("pub const CRATE_TEXT: u32 = 0x2;\n")
     out.write("use crate::generic::*;\n\npub struct Peripherals {\n")
     for n in range(count):
         out.write(f"    pub P{n}: Periph<p{n}::RegisterBlock, {hex(0x40000000 + 0x400 * n)}>,\n")
@@ -58,6 +63,7 @@ PYTHON
     cmp -s "$folder/crate.rs" "$folder/out" || { echo "printed otherwise" >&2; exit 1; }
     read -r cat_time _ < <(best cat)
     bytes="$(stat -c %s "$folder/crate.rs")"
-    awk -v m="$megabytes" -v r="$read_time" -v p="$both_time" -v c="$cat_time" -v k="$memory" -v b="$bytes" \
-        'BEGIN { printf "%5d %9.2f %9.2f %9.2f %11s %12.1f\n", m, r, p, c, (c > 0 ? sprintf("%.0f", p / c) : "-"), k * 1024 / b }'
+    awk -v v="$version" -v m="$megabytes" -v r="$read_time" -v p="$both_time" -v c="$cat_time" -v k="$memory" -v b="$bytes" \
+        'BEGIN { printf "%7d %5d %9.2f %9.2f %9.2f %11s %12.1f\n", v, m, r, p, c, (c > 0 ? sprintf("%.0f", p / c) : "-"), k * 1024 / b }'
+done
 done

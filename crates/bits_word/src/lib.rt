@@ -3,8 +3,6 @@
 #![tactic(auto)]
 
 mod place;
-#[cfg(test)]
-mod tests;
 mod word;
 
 pub use word::Word;

@@ -4,8 +4,6 @@
 
 mod row;
 mod table;
-#[cfg(test)]
-mod tests;
 
 pub use row::CaseRow;
 pub use table::{CaseTable, Unsorted};

@@ -1,6 +1,6 @@
 -- One element whose dimension is without fault: its groups are made without a sum that stops short, and each has the form of
 -- what is unfolded.
-use Rattle.std.proofs.Common.{◌≡◌, ℕ, zero, suc, ◌+◌, ◌-◌, ◌*◌, ◌^◌, ◌≤◌, ◌<◌, Bool, true, false, cond, not, ◌&&◌, ◌||◌, nat_lt, nat_eq, List, [], ◌∷◌, map, filter, Option, None, Some, unwrap_or, inl, inr, refl, sym, ap, ap₂, ◌∙◌, subst, arith, if◌then◌else◌, IsTrue}
+use Rattle.std.proofs.Common.{◌≡◌, ℕ, zero, suc, ◌+◌, ◌-◌, ◌*◌, ◌^◌, ◌≤◌, ◌<◌, Bool, true, false, cond, not, ◌&&◌, ◌||◌, nat_lt, nat_eq, List, [], ◌∷◌, length, map, filter, Option, None, Some, unwrap_or, inl, inr, refl, sym, ap, ap₂, ◌∙◌, subst, arith, if◌then◌else◌, IsTrue}
 use Rattle.std.specs.Bool.{⊤}
 use Rattle.std.specs.List.{AllByRecursion, list_any, range_with_len}
 use Rattle.std.proofs.lemmas.Bool.Decides.{nat_tests}
@@ -11,8 +11,8 @@ use Rattle.dim_expand.specs.Causes.{cause_at, dim_cause, index_cause, dim_limit,
 use Rattle.dim_expand.specs.Indexes.{index_of}
 use Rattle.dim_expand.specs.Marks.{has_dimension, may_be_array, has_array_mark, indexed, is_list, is_list_name, is_marked}
 use Rattle.dim_expand.specs.Unfolding.{groups_of, group_step, group_keys, is_dimension, moved_key, distance_of}
-use Rattle.dim_expand.specs.Walks.{capped, exact, capped_index, capped_key, capped_keys, capped_step, group_of, groups, IsTyped}
-use Rattle.dim_expand.proofs.Words.{index-word, indexed-word, array-name, unmarked}
+use Rattle.dim_expand.specs.Walks.{capped, exact, name_or, capped_index, capped_key, capped_keys, capped_step, group_of, groups, IsTyped}
+use Rattle.dim_expand.proofs.Words.{index-word, index-some, indexed-word, indexed-name, name_or-name, array-name, unmarked}
 use Rattle.pac_base.specs.Names.{IsWord, IsName, IsArrayName}
 use Rattle.svd_model.specs.Counting.{told_count}
 use Rattle.svd_model.specs.Facts.{IsElement, IsPlaced, IsUnfoldedElement, IsArrayOrPlain, IsArrayDim, IsBounded, IsIndexed, IsIndex, HasForm, is_dim}
@@ -152,6 +152,16 @@ reaches d k first last none rising short within = by (nat_eq (told_count (last -
         let same : told_count (last - first + 1) ≡ d = grind (arith, nat_tests, is) in
         omega (arith, same, rising, within)
 
+-- words reach as far as there are members
+reaches-words : (d k : ℕ) (words : List (List ℕ)) → index_cause d (Some (Words words)) ≡ None → k < d → k < length words
+reaches-words d k words none within = by (nat_eq (told_count (length words)) d) refl none
+  where
+    by : (b : Bool) → nat_eq (told_count (length words)) d ≡ b → (if b then None else Some (IndexCount d (told_count (length words)))) ≡ None → k < length words
+    by false is e = absurd cc
+    by true is e =
+        let same : told_count (length words) ≡ d = grind (arith, nat_tests, is) in
+        omega (arith, same, within)
+
 short-letters : (first last : ℕ) → IsIndex (Letters first last) → last ≤ 122
 short-letters first last h =
     elim h.1 as (λ _. last ≤ 122) [ inl u ↦ omega (arith, u.1) | inr u ↦ omega (arith, u.1) ]
@@ -188,13 +198,30 @@ keys-agree distance (key ∷ keys) near all = by (not (is_dimension key)) (keys-
     by true rest = ap₂ (λ x r. x ∷ r) (key-agree distance key near all.0) rest
     by false rest = rest
 
+-- the index of a member is a word
+member-index : (step : Step) (keys : List Key) (d k : ℕ) → IsFine step keys → IsDimmed step.name keys d → k < d → IsWord (index_of (value_of stated_index keys) k)
+member-index step keys d k fine dimmed within =
+    index-word (value_of stated_index keys) k (index-stated step keys fine.element)
+    (λ first last is.
+    let index = index-stated step keys fine.element (Letters first last) is in
+    reaches d k first last (sym (ap (index_cause d) is) ∙ dimmed.indexes) index.0 (short-letters first last index) within)
+
+-- and the name with it is a name
+member-name : (step : Step) (keys : List Key) (d k : ℕ) → IsFine step keys → is_list step ≡ true → IsDimmed step.name keys d → k < d → IsName (indexed step.name (index_of (value_of stated_index keys) k))
+member-name step keys d k fine list dimmed within =
+    indexed-name step.name (index_of (value_of stated_index keys) k) (fine.typed.named (list-kind step list)) dimmed.mark
+    (member-index step keys d k fine dimmed within)
+    (index-some (value_of stated_index keys) k (index-stated step keys fine.element)
+    (λ words is. reaches-words d k words (sym (ap (index_cause d) is) ∙ dimmed.indexes) within))
+
 -- a member of a list
-member-agree : (step : Step) (keys : List Key) (below : Forest Step Key) (d k : ℕ) → IsFine step keys → IsDimmed step.name keys d → k < d → group_of capped step keys below (Some k) ≡ group_of exact step keys below (Some k)
+member-agree : (step : Step) (keys : List Key) (below : Forest Step Key) (d k : ℕ) → IsFine step keys → is_list step ≡ true → IsDimmed step.name keys d → k < d → group_of capped step keys below (Some k) ≡ group_of exact step keys below (Some k)
 unfolding capped_step group_step capped_keys group_keys
-member-agree step keys below d k fine dimmed within =
+member-agree step keys below d k fine list dimmed within =
     let few : k ≤ 65535 = omega (arith, within, dimmed.most) in
-    let names : indexed step.name (capped_index (value_of stated_index keys) k) ≡ indexed step.name (index_of (value_of stated_index keys) k) =
-    ap (indexed step.name) (index-agree (value_of stated_index keys) d k (index-stated step keys fine.element) dimmed.indexes within) in
+    let names : name_or step.name (indexed step.name (capped_index (value_of stated_index keys) k)) ≡ indexed step.name (index_of (value_of stated_index keys) k) =
+    ap (λ index. name_or step.name (indexed step.name index)) (index-agree (value_of stated_index keys) d k (index-stated step keys fine.element) dimmed.indexes within)
+    ∙ name_or-name step.name (indexed step.name (index_of (value_of stated_index keys) k)) (member-name step keys d k fine list dimmed within) in
     let moved : map (capped_key (distance_of keys k)) (filter (λ key. not (is_dimension key)) keys) ≡ map (moved_key (distance_of keys k)) (filter (λ key. not (is_dimension key)) keys) =
     keys-agree (distance_of keys k) keys (distance-far keys k few fine.typed.small) fine.element.bounded in
     λ i. (record { kind = step.kind; name = names i; number = step.number }, record { keys = moved i; below = below })
@@ -236,7 +263,7 @@ groups-agree step keys below fine =
     map-all (group_of capped step keys below) (group_of exact step keys below) (groups_of step keys)
     (each-group (λ group. group_of capped step keys below group ≡ group_of exact step keys below group) step keys fine
     (λ unlisted. itself-agrees step keys below)
-    (λ d k list is dimmed within. member-agree step keys below d k fine dimmed within))
+    (λ d k list is dimmed within. member-agree step keys below d k fine list dimmed within))
 
 -- ---- each group has the form of what is unfolded
 
@@ -325,15 +352,10 @@ member-form step keys number d k fine list dimmed within = record {
     facts : IsMoved moved
     facts = moved-keys (distance_of keys k) keys (distance-far keys k (omega (arith, within, dimmed.most)) fine.typed.small) fine.element.bounded
 
-    reached : (first last : ℕ) → value_of stated_index keys ≡ Some (Letters first last) → first + k ≤ last
-    reached first last is =
-        let index = index-stated step keys fine.element (Letters first last) is in
-        reaches d k first last (sym (ap (index_cause d) is) ∙ dimmed.indexes) index.0 (short-letters first last index) within
-
     word : IsWord (indexed step.name (index_of (value_of stated_index keys) k))
     word =
         indexed-word step.name (index_of (value_of stated_index keys) k) (fine.typed.named may) dimmed.mark
-        (index-word (value_of stated_index keys) k (index-stated step keys fine.element) reached)
+        (member-index step keys d k fine dimmed within)
 
 -- an element that is no list, where its dimension is stated or not
 itself-by : (kind : Kind) (name : List ℕ) (number : ℕ) (keys : List Key) (o : Option ℕ) → value_of stated_dim keys ≡ o → FreeBy name keys o → is_list (record { kind = kind; name = name; number = number }) ≡ false → has_dimension kind ≡ true → IsName name → (kind ≡ field → IsPlaced keys) → IsArrayOrPlain (record { kind = kind; name = name; number = number }) keys

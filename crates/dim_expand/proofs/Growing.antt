@@ -1,15 +1,16 @@
 -- Siblings that grow at their end: each is numbered by the tally of those before it.
-use Rattle.std.proofs.Common.{◌≡◌, ℕ, ◌+◌, ◌<◌, Bool, true, false, cond, ◌&&◌, nat_eq, List, [], ◌∷◌, ◌++◌, map, Option, None, Some, unwrap_or, refl, sym, ap, ap₂, ◌∙◌, subst, arith, append_assoc, append-nil}
+use Rattle.std.proofs.Common.{◌≡◌, ℕ, suc, ◌+◌, ◌-◌, ◌^◌, ◌<◌, ◌≤◌, length, Bool, true, false, cond, ◌&&◌, nat_eq, List, [], ◌∷◌, ◌++◌, map, Option, None, Some, unwrap_or, refl, sym, ap, ap₂, ◌∙◌, subst, arith, append_assoc, append-nil}
 use Rattle.std.specs.Cmp.Lexicographic.{bytes_decides}
 use Rattle.std.specs.List.{AllByRecursion}
 use Rattle.std.specs.Map.{lookup}
 use Rattle.std.specs.Str.{bytes_eq}
 use Rattle.std.proofs.lemmas.Bool.Decides.{nat_tests}
-use Rattle.std.proofs.lemmas.List.{map-append}
+use Rattle.std.proofs.lemmas.List.{map-append, length-append, length-map}
 use Rattle.indexmap.specs.IndexMap.{insert_entry}
 use Rattle.dim_expand.specs.Groups.{HasDim}
 use Rattle.dim_expand.specs.Marks.{has_dimension, may_be_array}
-use Rattle.dim_expand.specs.Tallies.{Tallies, names_of, Sound, Pushes}
+use Rattle.dim_expand.specs.Narrow.{AreFew, AreNarrow, IsNarrow}
+use Rattle.dim_expand.specs.Tallies.{Tallies, names_of, Sound, Fit, Pushes}
 use Rattle.dim_expand.specs.Unfolding.{count_behind, numbered_behind}
 use Rattle.dim_expand.specs.Walks.{capped, capped_name, capped_step, numbered_list, unfolded_list, unfolded, groups, groups_at, group_at, group_tree, list_count}
 use Rattle.dim_expand.proofs.Groups.{groups_up_to, groups-more, groups-whole}
@@ -62,21 +63,46 @@ names-grown old xs =
     map-append (λ (x : Step × Tree Step Key). x.0.name) old (numbered_list (names_of old) xs)
     ∙ ap (λ r. names_of old ++ r) (names-numbered (names_of old) xs)
 
+-- ---- lengths
+
+pub length-numbered : (before : List (List ℕ)) (xs : List (Step × Tree Step Key)) → length (numbered_list before xs) ≡ length xs
+unfolding numbered_list
+length-numbered before [] = refl
+length-numbered before (x ∷ xs) = ap suc (length-numbered (before ++ x.0.name ∷ []) xs)
+
+length-grown : (before : List (List ℕ)) (old xs : List (Step × Tree Step Key)) → length (old ++ numbered_list before xs) ≡ length old + length xs
+length-grown before old xs = length-append old (numbered_list before xs) ∙ ap (λ n. length old + n) (length-numbered before xs)
+
+count-within : (before : List (List ℕ)) (name : List ℕ) → count_behind before name ≤ length before
+count-within [] name = omega arith
+count-within (other ∷ before) name = by (bytes_eq name other) (count-within before name)
+  where
+    by : (b : Bool) → count_behind before name ≤ length before → cond b 1 0 + count_behind before name ≤ suc (length before)
+    by true h = omega (arith, h)
+    by false h = omega (arith, h)
+
+-- of the siblings that stand there fewer have this name than the greatest number
+few-of-name : (old : List (Step × Tree Step Key)) (x : Step × Tree Step Key) (name : List ℕ) → Fit old (x ∷ []) → count_behind (names_of old) name < 2 ^ 32 - 1
+few-of-name old x name fit = by (count-within (names_of old) name) (length-map old (λ (y : Step × Tree Step Key). y.0.name)) fit
+  where
+    by : count_behind (names_of old) name ≤ length (names_of old) → length (names_of old) ≡ length old → length old + 1 < 2 ^ 32 → count_behind (names_of old) name < 2 ^ 32 - 1
+    by within same few = omega (arith, within, same, few)
+
 -- ---- siblings that are pushed
 
 -- nothing is pushed
 pub pushes_none : (tally tally_after : List (List ℕ × ℕ)) (old new : List (Step × Tree Step Key)) → tally_after ≡ tally → new ≡ old → Pushes tally old [] tally_after new
 unfolding numbered_list
-pushes_none tally tally_after old new same is sound = record {
+pushes_none tally tally_after old new same is fit sound = record {
   sound = subst (λ t. Sound t new) (sym same) (subst (Sound tally) (sym is) sound);
   grown = is ∙ sym (append-nil old);
 }
 
 -- some are pushed, and then others
 pub pushes_on : (tally tally_between tally_after : List (List ℕ × ℕ)) (old xs between ys new : List (Step × Tree Step Key)) → Pushes tally old xs tally_between between → Pushes tally_between between ys tally_after new → Pushes tally old (xs ++ ys) tally_after new
-pushes_on tally tally_between tally_after old xs between ys new one two sound =
-    let first = one sound in
-    let second = two first.sound in record {
+pushes_on tally tally_between tally_after old xs between ys new one two fit sound =
+    let first = one (fits fit (length-append xs ys)) sound in
+    let second = two (follows fit (length-append xs ys) (ap length first.grown ∙ length-grown (names_of old) old xs)) first.sound in record {
       sound = second.sound;
       grown =
           second.grown
@@ -85,6 +111,12 @@ pushes_on tally tally_between tally_after old xs between ys new one two sound =
           ∙ append_assoc old (numbered_list (names_of old) xs) (numbered_list (names_of old ++ names_of xs) ys)
           ∙ ap (λ r. old ++ r) (sym (numbered-append (names_of old) xs ys));
     }
+  where
+    fits : Fit old (xs ++ ys) → length (xs ++ ys) ≡ length xs + length ys → Fit old xs
+    fits f is = omega (arith, f, is)
+
+    follows : Fit old (xs ++ ys) → length (xs ++ ys) ≡ length xs + length ys → length between ≡ length old + length xs → Fit between ys
+    follows f is grown = omega (arith, f, is, grown)
 
 -- the numbers stay below the counts where one more name is counted
 further : (names : List (List ℕ)) (name : List ℕ) (xs : List (Step × Tree Step Key)) → AllByRecursion (λ x. x.0.number < count_behind names x.0.name) xs → AllByRecursion (λ x. x.0.number < count_behind (names ++ name ∷ []) x.0.name) xs
@@ -101,11 +133,11 @@ all-behind P [] x all here = (here, tt)
 all-behind P (y ∷ xs) x all here = (all.0, all-behind P xs x all.1 here)
 
 -- a key that the tally gave goes last
-pub pushed_one : (tally tally_after : List (List ℕ × ℕ)) (old new : List (Step × Tree Step Key)) (x : Step × Tree Step Key) (key : Sibling) (tree : Tree Step Key) → has_dimension x.0.kind ≡ true → key.name ≡ x.0.name → tree ≡ x.1 → ((before : List (List ℕ)) → Tallies before tally → key.number ≡ count_behind before key.name) → ((before : List (List ℕ)) → Tallies before tally → Tallies (before ++ key.name ∷ []) tally_after) → (Sound tally old → new ≡ old ++ (step_of x.0.kind key, tree) ∷ []) → Pushes tally old (x ∷ []) tally_after new
+pub pushed_one : (tally tally_after : List (List ℕ × ℕ)) (old new : List (Step × Tree Step Key)) (x : Step × Tree Step Key) (key : Sibling) (tree : Tree Step Key) → has_dimension x.0.kind ≡ true → key.name ≡ x.0.name → tree ≡ x.1 → ((before : List (List ℕ)) → Tallies before tally → key.number ≡ count_behind before key.name) → ((before : List (List ℕ)) → Tallies before tally → count_behind before key.name < 2 ^ 32 - 1 → Tallies (before ++ key.name ∷ []) tally_after) → (Sound tally old → new ≡ old ++ (step_of x.0.kind key, tree) ∷ []) → Pushes tally old (x ∷ []) tally_after new
 unfolding numbered_list numbered_behind
-pushed_one tally tally_after old new x key tree may named is numbers tallies grew sound = record {
+pushed_one tally tally_after old new x key tree may named is numbers tallies grew fit sound = record {
   sound = record {
-    counted = subst (λ names. Tallies names tally_after) (sym all_names) (tallies (names_of old) sound.counted);
+    counted = subst (λ names. Tallies names tally_after) (sym all_names) (tallies (names_of old) sound.counted (few-of-name old x key.name fit));
     below = subst (λ made. AllByRecursion (λ y. y.0.number < count_behind (names_of new) y.0.name) made) (sym grown)
         (subst (λ names. AllByRecursion (λ y. y.0.number < count_behind names y.0.name) (old ++ (step_of x.0.kind key, tree) ∷ [])) (sym all_names)
         (all-behind (λ y. y.0.number < count_behind (names_of old ++ key.name ∷ []) y.0.name) old (step_of x.0.kind key, tree) (further (names_of old) key.name old sound.below) last));
@@ -178,9 +210,9 @@ unfolding unfolded_list siblings
 unfolded_list-cons x rest =
     ap (λ r. r ++ unfolded_list capped (siblings rest)) (sym (append-nil (groups capped x.0 x.1.keys (siblings (numbered_list [] (unfolded_list capped x.1.below))))))
 
-pub growing_more : (all : List (Step × Tree Step Key)) (tally tally_after : List (List ℕ × ℕ)) (made new left rest : List (Step × Tree Step Key)) (x : Step × Tree Step Key) → Growing all tally made left → left ≡ x ∷ rest → Pushes tally made (unfolded_list capped (siblings (x ∷ []))) tally_after new → Growing all tally_after new rest
-growing_more all tally tally_after made new left rest x so_far is pushes =
-    let grew = pushes so_far.sound in record {
+pub growing_more : (all : List (Step × Tree Step Key)) (tally tally_after : List (List ℕ × ℕ)) (made new left rest : List (Step × Tree Step Key)) (x : Step × Tree Step Key) → AreFew (siblings all) → Growing all tally made left → left ≡ x ∷ rest → Pushes tally made (unfolded_list capped (siblings (x ∷ []))) tally_after new → Growing all tally_after new rest
+growing_more all tally tally_after made new left rest x few so_far is pushes =
+    let grew = pushes (fits (sym (length-grown (names_of made) made (unfolded_list capped (siblings left))) ∙ ap length so_far.whole ∙ length-numbered [] (unfolded_list capped (siblings all))) (ap length (ap (λ l. unfolded_list capped (siblings l)) is ∙ unfolded_list-cons x rest) ∙ length-append here others) few) so_far.sound in record {
       sound = grew.sound;
       whole =
           ap (λ m. m ++ numbered_list (names_of m) others) grew.grown
@@ -196,6 +228,18 @@ growing_more all tally tally_after made new left rest x so_far is pushes =
 
     others : List (Step × Tree Step Key)
     others = unfolded_list capped (siblings rest)
+
+    fits : length made + length (unfolded_list capped (siblings left)) ≡ length (unfolded_list capped (siblings all)) → length (unfolded_list capped (siblings left)) ≡ length here + length others → AreFew (siblings all) → Fit made here
+    fits whole parts within = omega (arith, whole, parts, within)
+
+-- what is narrow below siblings is so below the first and below the others
+pub narrow_first : (x : Step × Tree Step Key) (rest : List (Step × Tree Step Key)) → AreNarrow (siblings (x ∷ rest)) → IsNarrow (x.0.kind, x.1) × AreNarrow (siblings rest)
+unfolding AreNarrow siblings
+narrow_first x rest h = h
+
+-- and below a child
+pub narrow_child : (item : Item) → IsNarrow ((item_under item).0.kind, (item_under item).1) → IsNarrow (child_tree item.child)
+narrow_child item h = subst (λ (x : Step × Tree Step Key). IsNarrow (x.0.kind, x.1)) (item_under-is item) h
 
 pub growing_done : (all : List (Step × Tree Step Key)) (tally : List (List ℕ × ℕ)) (made left : List (Step × Tree Step Key)) → Growing all tally made left → left ≡ [] → siblings made ≡ unfolded capped (siblings all)
 unfolding unfolded unfolded_list numbered_list siblings
@@ -235,7 +279,7 @@ group-named x dim name group says is = is ∙ ap (λ index. capped_name x.0.name
 pub record IsNext (tally tally_after : List (List ℕ × ℕ)) (name : List ℕ) (key : Sibling) : Type 0 where
   pub named : key.name ≡ name
   pub number : (before : List (List ℕ)) → Tallies before tally → key.number ≡ count_behind before name
-  pub tallies : (before : List (List ℕ)) → Tallies before tally → Tallies (before ++ name ∷ []) tally_after
+  pub tallies : (before : List (List ℕ)) → Tallies before tally → count_behind before name < 2 ^ 32 - 1 → Tallies (before ++ name ∷ []) tally_after
 
 group-pushed : (tally tally_after : List (List ℕ × ℕ)) (old new : List (Step × Tree Step Key)) (x : Step × Tree Step Key) (dim : Dim) (group : Option ℕ) (name : List ℕ) (key : Sibling) (tree : Tree Step Key) → has_dimension x.0.kind ≡ true → HasDim x.1.keys dim → name ≡ capped_name x.0.name dim.index group → IsNext tally tally_after name key → tree ≡ group_tree capped x.1 group → (Sound tally old → new ≡ old ++ (step_of x.0.kind key, tree) ∷ []) → Pushes tally old (groups_at capped x (group ∷ [])) tally_after new
 unfolding capped_step
@@ -243,7 +287,7 @@ group-pushed tally tally_after old new x dim group name key tree may says is nex
     pushed_one tally tally_after old new (capped_step x.0 x.1.keys group, group_tree capped x.1 group) key tree may
     (next.named ∙ group-named x dim name group says is) made
     (λ before t. next.number before t ∙ ap (count_behind before) (sym next.named))
-    (λ before t. subst (λ n. Tallies (before ++ n ∷ []) tally_after) (sym next.named) (next.tallies before t))
+    (λ before t few. subst (λ n. Tallies (before ++ n ∷ []) tally_after) (sym next.named) (next.tallies before t (subst (λ n. count_behind before n < 2 ^ 32 - 1) next.named few)))
     grew
 
 -- in a map

@@ -8,6 +8,7 @@ pub mod Flat
 pub mod Words
 pub mod Element
 pub mod Fine
+pub mod Narrow
 pub mod Totals
 pub mod FirstFault
 pub mod Whole

@@ -1,5 +1,5 @@
 -- A whole device: what is made of it, and its first fault.
-use Rattle.std.proofs.Common.{◌≡◌, ℕ, ◌≤◌, Bool, true, false, nat_lt, [], Option, None, Some, option_map, refl, sym, ap, ◌∙◌, subst, arith, if◌then◌else◌}
+use Rattle.std.proofs.Common.{◌≡◌, ℕ, ◌≤◌, Bool, true, false, nat_lt, [], length, Option, None, Some, option_map, refl, sym, ap, ◌∙◌, subst, arith, if◌then◌else◌}
 use Rattle.std.specs.Option.{option_or}
 use Rattle.std.proofs.lemmas.Bool.Decides.{nat_tests}
 use Rattle.dim_expand.specs.declared.fault.DimFault.{DimFault}
@@ -7,10 +7,12 @@ use Rattle.dim_expand.specs.declared.fault.DimFault.TheVariants.{TooMany}
 use Rattle.dim_expand.specs.declared.walk.Found.{Found}
 use Rattle.dim_expand.specs.Faults.{amount_of, first_fault, first_past, past_limit, limit_of}
 use Rattle.dim_expand.specs.Unfolding.{unfolded_rows}
-use Rattle.dim_expand.specs.Walks.{capped, exact, first_in, fault_in, told_found, unfolded, unfolded_tree, weighed, numbered_list, AreTyped}
+use Rattle.dim_expand.specs.Narrow.{IsNarrowForest}
+use Rattle.dim_expand.specs.Walks.{capped, exact, first_in, fault_in, told_found, unfolded, unfolded_list, unfolded_tree, weighed, numbered_list, AreTyped}
 use Rattle.dim_expand.proofs.Fine.{AreFine, fine, agree, distinct, forms}
 use Rattle.dim_expand.proofs.FirstFault.{first-of-all}
 use Rattle.dim_expand.proofs.Flat.{flat}
+use Rattle.dim_expand.proofs.Narrow.{few, narrow}
 use Rattle.dim_expand.proofs.Totals.{amounts}
 use Rattle.svd_model.specs.declared.counted.Counted.{Counted}
 use Rattle.svd_model.specs.declared.counted.Counted.TheVariants.{Elements, Registers, Fields, Values}
@@ -113,6 +115,22 @@ whole-fact tree folded plain typed none =
 
     within : AreWithin (λ counted. weighed counted tree.below)
     within = are-within (λ counted. weighed counted tree.below) (both-none (option_map told_found (first_in tree.below)) (first_past (λ counted. weighed counted tree.below)) none).1
+
+-- the siblings of what is unfolded are few at each level
+pub whole-narrow : (tree : Tree Step Key) → IsFolded IsPlaced tree → AreTyped true tree.below → fault_in tree.below ≡ None → IsNarrowForest tree.below
+whole-narrow tree folded typed none = (omega (arith, most, few-below), narrow tree.below h (omega (arith, most)))
+  where
+    nothing : first_in tree.below ≡ None
+    nothing = none-found tree.below none
+
+    h : AreFine true tree.below
+    h = all_fine tree folded typed nothing
+
+    few-below : length (unfolded_list capped tree.below) ≤ weighed Elements tree.below
+    few-below = few tree.below h
+
+    most : weighed Elements tree.below ≤ limit_of Elements
+    most = (are-within (λ counted. weighed counted tree.below) (both-none (option_map told_found (first_in tree.below)) (first_past (λ counted. weighed counted tree.below)) none).1).elements
 
 -- something isn't nothing
 pub not-both : {A : Type 0} {x : A} {o : Option A} {P : Type 0} → Some x ≡ o → o ≡ None → P

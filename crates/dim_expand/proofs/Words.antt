@@ -6,7 +6,9 @@ use Rattle.std.specs.Fmt.{digits_onto, digit_glyph, digits}
 use Rattle.std.proofs.lemmas.Bool.Decides.{nat_tests}
 use Rattle.dim_expand.specs.Indexes.{index_of}
 use Rattle.dim_expand.specs.Marks.{before_mark, from_mark, behind_mark, has_array_mark, indexed, is_marked}
-use Rattle.pac_base.specs.Names.{is_word_byte, IsWord, IsName, IsListName, IsArrayName, array_mark}
+use Rattle.dim_expand.specs.Walks.{name_or}
+use Rattle.pac_base.specs.Names.{is_word_byte, IsWord, IsName, IsListName, IsArrayName, array_mark, ends_name}
+use Rattle.pac_base.proofs.NameForms.{is_name-Decides}
 use Rattle.svd_model.specs.Facts.{IsIndex, IsLetterRange}
 use Rattle.svd_values.specs.declared.index.DimIndex.{DimIndex}
 use Rattle.svd_values.specs.declared.index.DimIndex.TheVariants.{Numbers, Letters, Words}
@@ -69,6 +71,39 @@ index-word (Some (Letters first last)) k is reaches =
     between : IsLetterRange first last → first + k ≤ last → ((65 ≤ first + k) × (first + k ≤ 90)) ⊎ ((97 ≤ first + k) × (first + k ≤ 122))
     between h within = elim h.1 as (λ _. ((65 ≤ first + k) × (first + k ≤ 90)) ⊎ ((97 ≤ first + k) × (first + k ≤ 122))) [ inl u ↦ inl (omega (arith, u.0), omega (arith, u.1, within)) | inr u ↦ inr (omega (arith, u.0), omega (arith, u.1, within)) ]
 index-word (Some (Words words)) k is reaches = words-word words k (is (Words words) refl).1
+
+-- ---- indexes of at least one byte
+
+digits-some : (k n x : ℕ) (acc : List ℕ) → digits_onto k 10 false n (x ∷ acc) ≢ []
+digits-some zero n x acc = λ e. cc
+digits-some (suc k) n x acc = by (nat_eq (n / 10) 0) (digits-some k (n / 10) (digit_glyph false (n % 10)) (x ∷ acc))
+  where
+    by : (b : Bool) → digits_onto k 10 false (n / 10) (digit_glyph false (n % 10) ∷ x ∷ acc) ≢ [] → (if b then digit_glyph false (n % 10) ∷ x ∷ acc else digits_onto k 10 false (n / 10) (digit_glyph false (n % 10) ∷ x ∷ acc)) ≢ []
+    by true rest = λ e. cc
+    by false rest = rest
+
+first-some : (k n : ℕ) → digits_onto (suc k) 10 false n [] ≢ []
+first-some k n = by (nat_eq (n / 10) 0)
+  where
+    by : (b : Bool) → (if b then digit_glyph false (n % 10) ∷ [] else digits_onto k 10 false (n / 10) (digit_glyph false (n % 10) ∷ [])) ≢ []
+    by true = λ e. cc
+    by false = digits-some k (n / 10) (digit_glyph false (n % 10)) []
+
+decimal-some : (n : ℕ) → decimal n ≢ []
+unfolding digits
+decimal-some n = first-some 63 n
+
+words-some : (words : List (List ℕ)) (k : ℕ) → AllByRecursion (λ word. IsWord word × (word ≢ [])) words → k < length words → get_or words k [] ≢ []
+words-some [] k h less = absurd (omega (arith, less))
+words-some (word ∷ words) zero h less = h.0.1
+words-some (word ∷ words) (suc k) h less = words-some words k h.1 (omega (arith, less))
+
+-- a list of indexes has no empty one, as far as it reaches
+pub index-some : (o : Option DimIndex) (k : ℕ) → ((index : DimIndex) → o ≡ Some index → IsIndex index) → ((words : List (List ℕ)) → o ≡ Some (Words words) → k < length words) → index_of o k ≢ []
+index-some None k is reaches = decimal-some k
+index-some (Some (Numbers first last)) k is reaches = decimal-some (first + k)
+index-some (Some (Letters first last)) k is reaches = λ e. cc
+index-some (Some (Words words)) k is reaches = words-some words k (is (Words words) refl).1 (reaches words refl)
 
 -- ---- names with a mark
 
@@ -150,3 +185,31 @@ array-name name named is_mark array = by (marked name named is_mark)
         let parts = parted name l.before (115 ∷ l.after) 37 l.whole l.begins refl in
         absurd (let f : true ≡ false = sym array ∙ ap (λ m. bytes_eq m array_mark) parts.1 in cc)
     by (inr a) = a
+
+-- ---- the name of a group
+
+-- an index of at least one byte in the place of the mark makes a name
+pub indexed-name : (name index : List ℕ) → IsName name → is_marked name ≡ true → IsWord index → index ≢ [] → IsName (indexed name index)
+unfolding indexed
+indexed-name name index named is_mark word some =
+    inl (some_between (before_mark name) index (behind_mark name) some, indexed-word name index named is_mark word)
+  where
+    some_front : (index behind : List ℕ) → index ≢ [] → index ++ behind ≢ []
+    some_front [] behind some = absurd (some refl)
+    some_front (x ∷ xs) behind some = λ e. cc
+
+    some_between : (before index behind : List ℕ) → index ≢ [] → before ++ (index ++ behind) ≢ []
+    some_between [] index behind some = some_front index behind some
+    some_between (x ∷ xs) index behind some = λ e. cc
+
+pub name_or-name : (name bytes : List ℕ) → IsName bytes → name_or name bytes ≡ bytes
+unfolding name_or
+name_or-name name bytes named = ap (λ b. if b then bytes else name) ((is_name-Decides bytes).1 named)
+
+pub name_or-else : (name bytes : List ℕ) → (IsName bytes → ⊥) → name_or name bytes ≡ name
+unfolding name_or
+name_or-else name bytes none = by (ends_name (before_mark bytes) (from_mark bytes)) refl
+  where
+    by : (b : Bool) → ends_name (before_mark bytes) (from_mark bytes) ≡ b → (if b then bytes else name) ≡ name
+    by true e = absurd (none ((is_name-Decides bytes).0 e))
+    by false e = refl

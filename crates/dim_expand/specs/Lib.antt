@@ -1,4 +1,5 @@
 pub mod Marks
+pub mod Narrow
 pub mod Indexes
 pub mod Causes
 pub mod Unfolding

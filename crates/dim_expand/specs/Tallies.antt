@@ -1,6 +1,6 @@
 -- Tallies of written names, from which the numbers come that tell siblings of one name apart; and lists of siblings
 -- that grow at their end.
-use Rattle.std.specs.Prelude.{◌≡◌, ℕ, ◌<◌, List, ◌++◌, map, unwrap_or}
+use Rattle.std.specs.Prelude.{◌≡◌, ℕ, ◌+◌, ◌^◌, ◌<◌, List, ◌++◌, length, map, unwrap_or}
 use Rattle.std.specs.List.{AllByRecursion}
 use Rattle.std.specs.Map.{lookup}
 use Rattle.std.specs.Str.{bytes_eq}
@@ -28,6 +28,10 @@ pub record Grew (tally : List (List ℕ × ℕ)) (old xs new : List (Step × Tre
   pub sound : Sound tally new
   pub grown : new ≡ old ++ numbered_list (names_of old) xs
 
--- so do they where the tally was sound
+-- with those that follow the siblings are so few that their numbers have 32 bits
+abbrev pub Fit : List (Step × Tree Step Key) → List (Step × Tree Step Key) → Type 0
+Fit old xs = length old + length xs < 2 ^ 32
+
+-- so do they where the tally was sound, and the siblings fit
 abbrev pub Pushes : List (List ℕ × ℕ) → List (Step × Tree Step Key) → List (Step × Tree Step Key) → List (List ℕ × ℕ) → List (Step × Tree Step Key) → Type 0
-Pushes tally old xs tally_after new = Sound tally old → Grew tally_after old xs new
+Pushes tally old xs tally_after new = Fit old xs → Sound tally old → Grew tally_after old xs new

@@ -1,14 +1,14 @@
 -- What the functions of this crate give, on the pure tree. That this is what the flat rows say is proved.
-use Rattle.std.specs.Prelude.{◌≡◌, ℕ, ◌+◌, ◌-◌, ◌*◌, ◌^◌, ◌<◌, min, Bool, true, false, not, cond, List, [], ◌∷◌, ◌++◌, map, filter, reverse, get_or, decimal, Option, None, Some, option_map, unwrap_or, ⊤}
+use Rattle.std.specs.Prelude.{◌≡◌, ℕ, ◌+◌, ◌-◌, ◌*◌, ◌^◌, ◌<◌, min, Bool, true, false, not, cond, List, [], ◌∷◌, ◌++◌, map, filter, reverse, get_or, decimal, Option, None, Some, option_map, unwrap_or, if◌then◌else◌, ⊤}
 use Rattle.std.specs.Option.{option_or}
 use Rattle.dim_expand.specs.declared.fault.Cause.{Cause}
 use Rattle.dim_expand.specs.declared.fault.DimFault.{DimFault}
 use Rattle.dim_expand.specs.declared.walk.Found.{Found}
 use Rattle.dim_expand.specs.Causes.{cause_at, stated_index}
 use Rattle.dim_expand.specs.Faults.{fault_of, first_past}
-use Rattle.dim_expand.specs.Marks.{has_dimension, is_list, is_list_name, indexed}
+use Rattle.dim_expand.specs.Marks.{has_dimension, is_list, is_list_name, before_mark, from_mark, indexed}
 use Rattle.dim_expand.specs.Unfolding.{groups_of, group_step, group_keys, is_dimension, distance_of, numbered_behind}
-use Rattle.pac_base.specs.Names.{IsName}
+use Rattle.pac_base.specs.Names.{IsName, ends_name}
 use Rattle.svd_model.specs.declared.counted.Counted.{Counted}
 use Rattle.svd_model.specs.declared.counted.Counted.TheVariants.{Elements, Registers, Fields, Values}
 use Rattle.svd_model.specs.declared.device.Dim.{Dim}
@@ -103,16 +103,21 @@ exact = record { step = group_step; keys = group_keys }
 abbrev pub top : ℕ
 top = 2 ^ 128 - 1
 
--- as the code makes them: sums end at the greatest number of their type, which no sum reaches here
+-- as the code makes them: sums end at the greatest number of their type, which no sum reaches here, and a name that would
+-- be none stays, which none would be here
 abbrev pub capped_index : Option DimIndex → ℕ → List ℕ
 capped_index None k = decimal k
 capped_index (Some (Numbers first last)) k = decimal (first + k)
 capped_index (Some (Letters first last)) k = min (first + min k 255) 255 ∷ []
 capped_index (Some (Words words)) k = get_or words k []
 
+-- the bytes where they are a name, else the name, which stays
+unfoldable pub name_or : List ℕ → List ℕ → List ℕ
+name_or name bytes = if ends_name (before_mark bytes) (from_mark bytes) then bytes else name
+
 abbrev pub capped_name : List ℕ → Option DimIndex → Option ℕ → List ℕ
 capped_name name index None = name
-capped_name name index (Some k) = indexed name (capped_index index k)
+capped_name name index (Some k) = name_or name (indexed name (capped_index index k))
 
 unfoldable pub capped_step : Step → List Key → Option ℕ → Step
 capped_step step keys group =

@@ -1,6 +1,7 @@
 ghost use Rattle.std.specs.Prelude.{◌≡◌, ◌∷◌, [], IfOk, OnOk, map};
 ghost use Rattle.svd_model.specs.Trees.{field_under, field_tree};
 ghost use Rattle.svd_rows.specs.Forest.{siblings};
+ghost use Rattle.dim_expand.specs.Narrow.{AreFew};
 ghost use Rattle.dim_expand.specs.Tallies.{Pushes};
 ghost use Rattle.dim_expand.specs.Walks.{capped, group_tree, groups_at, unfolded, unfolded_list};
 
@@ -64,7 +65,7 @@ pub fn unfolded_fields(
     alloc: Global,
     fields: &IndexMap<Sibling, Field>,
 ) -> Result<IndexMap<Sibling, Field>, NoMemory>
-    ensures { IfOk result (λ made. siblings (map field_under made.entries) ≡ unfolded capped (siblings (map field_under fields.now.entries))) }
+    ensures { IfOk result (λ made. AreFew (siblings (map field_under fields.now.entries)) → siblings (map field_under made.entries) ≡ unfolded capped (siblings (map field_under fields.now.entries))) }
 {
     let mut made = IndexMap::new(alloc);
     let mut tally = Tally::new(alloc);

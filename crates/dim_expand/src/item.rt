@@ -2,6 +2,7 @@ ghost use Rattle.std.specs.Prelude.{◌≡◌, ◌∷◌, [], IfOk, OnOk, map};
 ghost use Rattle.svd_model.specs.Trees.{item_under, child_tree, cluster_tree, register_tree};
 ghost use Rattle.svd_rows.specs.Forest.{siblings};
 ghost use Rattle.dim_expand.specs.Groups.{HasDim};
+ghost use Rattle.dim_expand.specs.Narrow.{AreFew, IsNarrow, IsNarrowForest};
 ghost use Rattle.dim_expand.specs.Tallies.{Pushes};
 ghost use Rattle.dim_expand.specs.Walks.{capped, group_tree, groups_at, unfolded, unfolded_list};
 
@@ -18,7 +19,7 @@ fn register_group(
     element: &Register,
     group: Option<u64>,
 ) -> Result<Register, NoMemory>
-    ensures { IfOk result (λ made. register_tree made ≡ group_tree capped (register_tree element.now) group) }
+    ensures { IfOk result (λ made. AreFew (register_tree element.now).below → register_tree made ≡ group_tree capped (register_tree element.now) group) }
 {
     Ok(Register {
         derived: copied_path(alloc, &element.derived)?,
@@ -36,7 +37,7 @@ fn register_group(
 /// A group of a cluster.
 #[cycle(unfold)]
 fn cluster_group(alloc: Global, element: &Cluster, group: Option<u64>) -> Result<Cluster, NoMemory>
-    ensures { IfOk result (λ made. cluster_tree made ≡ group_tree capped (cluster_tree element.now) group) }
+    ensures { IfOk result (λ made. IsNarrowForest (cluster_tree element.now).below → cluster_tree made ≡ group_tree capped (cluster_tree element.now) group) }
 {
     Ok(Cluster {
         derived: copied_path(alloc, &element.derived)?,
@@ -51,7 +52,7 @@ fn cluster_group(alloc: Global, element: &Cluster, group: Option<u64>) -> Result
 /// A group of a child.
 #[cycle(unfold)]
 fn child_group(alloc: Global, child: &Child, group: Option<u64>) -> Result<Child, NoMemory>
-    ensures { IfOk result (λ made. child_tree made ≡ ((child_tree child.now).0, group_tree capped (child_tree child.now).1 group)) }
+    ensures { IfOk result (λ made. IsNarrow (child_tree child.now) → child_tree made ≡ ((child_tree child.now).0, group_tree capped (child_tree child.now).1 group)) }
 {
     match child {
         Child::Cluster(cluster) => Ok(Child::Cluster(cluster_group(alloc, cluster, group)?)),
@@ -76,7 +77,7 @@ fn push_item(
     tally: &mut Tally,
     group: Option<u64>,
 ) -> Result<(), NoMemory>
-    ensures { OnOk result (Pushes tally.old.counts.entries (map item_under made.old.items) (groups_at capped (item_under item.now) (group ∷ [])) tally.new.counts.entries (map item_under made.new.items)) }
+    ensures { OnOk result (IsNarrow (child_tree item.now.child) → Pushes tally.old.counts.entries (map item_under made.old.items) (groups_at capped (item_under item.now) (group ∷ [])) tally.new.counts.entries (map item_under made.new.items)) }
 {
     let name = group_name(alloc, &item.key.name, dim_of(&item.child), group)?;
     let child = child_group(alloc, &item.child, group)?;
@@ -92,7 +93,7 @@ fn push_items(
     made: &mut Vec<Item>,
     tally: &mut Tally,
 ) -> Result<(), NoMemory>
-    ensures { OnOk result (Pushes tally.old.counts.entries (map item_under made.old.items) (unfolded_list capped (siblings (item_under item.now ∷ []))) tally.new.counts.entries (map item_under made.new.items)) }
+    ensures { OnOk result (IsNarrow (child_tree item.now.child) → Pushes tally.old.counts.entries (map item_under made.old.items) (unfolded_list capped (siblings (item_under item.now ∷ []))) tally.new.counts.entries (map item_under made.new.items)) }
 {
     let count = list_count(true, &item.key.name, dim_of(&item.child));
     for place in 0..count.unwrap_or(1) {
@@ -104,7 +105,7 @@ fn push_items(
 /// The children of a peripheral or cluster, where each list has become its members.
 #[cycle(unfold)]
 pub fn unfolded_items(alloc: Global, items: &[Item]) -> Result<Vec<Item>, NoMemory>
-    ensures { IfOk result (λ made. siblings (map item_under made.items) ≡ unfolded capped (siblings (map item_under items.now))) }
+    ensures { IfOk result (λ made. IsNarrowForest (siblings (map item_under items.now)) → siblings (map item_under made.items) ≡ unfolded capped (siblings (map item_under items.now))) }
 {
     let mut made = Vec::new(alloc);
     let mut tally = Tally::new(alloc);

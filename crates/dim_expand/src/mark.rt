@@ -2,8 +2,9 @@ ghost use Rattle.std.specs.Prelude.{◌≡◌, ◌≤◌, IfOk, length};
 ghost use Rattle.std.specs.List.{list_all, prefix_len};
 ghost use Rattle.pac_base.specs.Names.{is_word_byte, IsName};
 ghost use Rattle.dim_expand.specs.Marks.{is_marked, is_list_name, has_array_mark, before_mark, from_mark, behind_mark, indexed};
+ghost use Rattle.dim_expand.specs.Walks.{name_or};
 
-use pac_base::{Name, NoMemory};
+use pac_base::{Name, NameFault, NoMemory};
 use std::alloc::Global;
 
 fn is_word_byte(byte: u8) -> bool
@@ -79,23 +80,24 @@ pub fn is_list_name(arrays: bool, name: &Name) -> bool
     is_marked(name) && !(arrays && has_array_mark(name.bytes()))
 }
 
-/// The name of these bytes. An index that takes the place of a mark makes a word, so memory alone can be wanting.
-fn named(alloc: Global, bytes: &[u8]) -> Result<Name, NoMemory>
-    ensures { IfOk result (λ name. name ≡ bytes.now) }
+/// The name of these bytes, or the name itself where they are none.
+fn name_or(alloc: Global, name: &Name, bytes: &[u8]) -> Result<Name, NoMemory>
+    ensures { IfOk result (λ made. made ≡ name_or name.now bytes.now) }
 {
     match Name::new(alloc, bytes) {
-        Ok(name) => Ok(name),
-        Err(_) => Err(NoMemory),
+        Ok(made) => Ok(made),
+        Err(NameFault::NotAName) => name.copy(alloc),
+        Err(NameFault::Memory) => Err(NoMemory),
     }
 }
 
-/// The name with the index in the place of its mark.
+/// The name with the index in the place of its mark. That makes a word wherever no dimension is at fault; else the name stays.
 #[tactic(auto, unfolding(crate::specs::Marks::indexed))]
 pub fn indexed(alloc: Global, name: &Name, index: &[u8]) -> Result<Name, NoMemory>
-    ensures { IfOk result (λ made. made ≡ indexed name.now index.now) }
+    ensures { IfOk result (λ made. made ≡ name_or name.now (indexed name.now index.now)) }
 {
     let mut bytes = Vec::from_slice(alloc, before_mark(name.bytes()))?;
     bytes.extend_from_slice(index)?;
     bytes.extend_from_slice(behind_mark(name.bytes()))?;
-    named(alloc, bytes.as_slice())
+    name_or(alloc, name, bytes.as_slice())
 }

@@ -1,6 +1,7 @@
 ghost use Rattle.std.specs.Prelude.{◌≡◌, ◌∷◌, [], IfOk, OnOk, map};
 ghost use Rattle.svd_model.specs.Trees.{peripheral_under, peripheral_tree, device_tree};
 ghost use Rattle.svd_rows.specs.Forest.{siblings};
+ghost use Rattle.dim_expand.specs.Narrow.{IsNarrowForest};
 ghost use Rattle.dim_expand.specs.Tallies.{Pushes};
 ghost use Rattle.dim_expand.specs.Walks.{capped, group_tree, groups_at, unfolded, unfolded_list, unfolded_tree};
 
@@ -10,7 +11,7 @@ use crate::tally::Tally;
 use indexmap::IndexMap;
 use pac_base::NoMemory;
 use std::alloc::Global;
-use svd_model::{Device, Peripheral, Sibling, copied_path, copied_text};
+use svd_model::{Device, Peripheral, Sibling, copied_path};
 
 /// A group of a peripheral.
 fn peripheral_group(
@@ -18,7 +19,7 @@ fn peripheral_group(
     element: &Peripheral,
     group: Option<u64>,
 ) -> Result<Peripheral, NoMemory>
-    ensures { IfOk result (λ made. peripheral_tree made ≡ group_tree capped (peripheral_tree element.now) group) }
+    ensures { IfOk result (λ made. IsNarrowForest (peripheral_tree element.now).below → peripheral_tree made ≡ group_tree capped (peripheral_tree element.now) group) }
 {
     Ok(Peripheral {
         derived: copied_path(alloc, &element.derived)?,
@@ -37,7 +38,7 @@ fn push_peripheral(
     tally: &mut Tally,
     group: Option<u64>,
 ) -> Result<(), NoMemory>
-    ensures { OnOk result (Pushes tally.old.counts.entries (map peripheral_under made.old.entries) (groups_at capped (peripheral_under (key.now, element.now)) (group ∷ [])) tally.new.counts.entries (map peripheral_under made.new.entries)) }
+    ensures { OnOk result (IsNarrowForest (peripheral_tree element.now).below → Pushes tally.old.counts.entries (map peripheral_under made.old.entries) (groups_at capped (peripheral_under (key.now, element.now)) (group ∷ [])) tally.new.counts.entries (map peripheral_under made.new.entries)) }
 {
     let name = group_name(alloc, &key.name, &element.dim, group)?;
     let peripheral = peripheral_group(alloc, element, group)?;
@@ -53,7 +54,7 @@ fn push_peripherals(
     made: &mut IndexMap<Sibling, Peripheral>,
     tally: &mut Tally,
 ) -> Result<(), NoMemory>
-    ensures { OnOk result (Pushes tally.old.counts.entries (map peripheral_under made.old.entries) (unfolded_list capped (siblings (peripheral_under (key.now, element.now) ∷ []))) tally.new.counts.entries (map peripheral_under made.new.entries)) }
+    ensures { OnOk result (IsNarrowForest (peripheral_tree element.now).below → Pushes tally.old.counts.entries (map peripheral_under made.old.entries) (unfolded_list capped (siblings (peripheral_under (key.now, element.now) ∷ []))) tally.new.counts.entries (map peripheral_under made.new.entries)) }
 {
     let count = list_count(false, &key.name, &element.dim);
     for place in 0..count.unwrap_or(1) {
@@ -66,7 +67,7 @@ fn unfolded_peripherals(
     alloc: Global,
     peripherals: &IndexMap<Sibling, Peripheral>,
 ) -> Result<IndexMap<Sibling, Peripheral>, NoMemory>
-    ensures { IfOk result (λ made. siblings (map peripheral_under made.entries) ≡ unfolded capped (siblings (map peripheral_under peripherals.now.entries))) }
+    ensures { IfOk result (λ made. IsNarrowForest (siblings (map peripheral_under peripherals.now.entries)) → siblings (map peripheral_under made.entries) ≡ unfolded capped (siblings (map peripheral_under peripherals.now.entries))) }
 {
     let mut made = IndexMap::new(alloc);
     let mut tally = Tally::new(alloc);
@@ -79,10 +80,10 @@ fn unfolded_peripherals(
 /// The device, where each list has become its members. The device that is lent stays as it is.
 #[tactic(auto, unfolding(svd_model::specs::Trees::device_tree, svd_model::specs::Trees::device_places))]
 pub fn unfolded_device(alloc: Global, device: &Device) -> Result<Device, NoMemory>
-    ensures { IfOk result (λ made. device_tree made ≡ unfolded_tree capped (device_tree device.now)) }
+    ensures { IfOk result (λ made. IsNarrowForest (device_tree device.now).below → device_tree made ≡ unfolded_tree capped (device_tree device.now)) }
 {
     Ok(Device {
-        name: copied_text(alloc, &device.name)?,
+        name: device.name.copy(alloc)?,
         props: device.props,
         peripherals: unfolded_peripherals(alloc, &device.peripherals)?,
     })

@@ -1,4 +1,4 @@
-ghost use Rattle.std.specs.Prelude.{◌≡◌, ◌++◌, ◌∷◌, [], ℕ, List, OnOk, IfOk};
+ghost use Rattle.std.specs.Prelude.{◌≡◌, ◌<◌, ◌-◌, ◌^◌, ◌++◌, ◌∷◌, [], ℕ, List, OnOk, IfOk};
 ghost use Rattle.dim_expand.specs.Tallies.{Tallies};
 ghost use Rattle.dim_expand.specs.Unfolding.{count_behind};
 
@@ -33,17 +33,15 @@ impl Tally {
         }
     }
 
-    /// The key of one more sibling of that name. There is no memory for 2^32 siblings.
+    /// The key of one more sibling of that name. The count stays at 2^32 - 1, which no description reaches.
     pub fn next(&mut self, alloc: Global, name: Name) -> Result<Sibling, NoMemory>
         ensures name { IfOk result (λ key. key.name ≡ name) }
         ensures number { IfOk result (λ key. (before : List (List ℕ)) → Tallies before self.old.counts.entries → key.number ≡ count_behind before name) }
-        ensures tally { OnOk result ((before : List (List ℕ)) → Tallies before self.old.counts.entries → Tallies (before ++ name ∷ []) self.new.counts.entries) }
+        ensures tally { OnOk result ((before : List (List ℕ)) → Tallies before self.old.counts.entries → count_behind before name < 2 ^ 32 - 1 → Tallies (before ++ name ∷ []) self.new.counts.entries) }
     {
         let number = self.count(&name);
-        if number == u32::MAX {
-            return Err(NoMemory);
-        }
-        self.counts.insert(name.copy(alloc)?, number + 1)?;
+        self.counts
+            .insert(name.copy(alloc)?, number.saturating_add(1))?;
         Ok(Sibling { name, number })
     }
 }

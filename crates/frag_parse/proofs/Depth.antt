@@ -5,6 +5,7 @@ use Rattle.std.specs.List.{list_all}
 use Rattle.text_scan.specs.Steps.{◌>>=◌}
 use Rattle.frag_words.specs.Words.{Word}
 use Rattle.frag_words.proofs.Readings.{both, both_left, both_right}
+use Rattle.frag_tree.specs.declared.krate.Version.{Version}
 use Rattle.frag_tree.specs.Trees.{BlockHead, BlockTree, ModuleTree, Modules, before, block_layer, ended, block_tree, in_line, module_layer, module_tree, one_block, one_register}
 use Rattle.frag_tree.specs.declared.block.Block.{Block, roll-Block}
 use Rattle.frag_tree.specs.declared.block.Module.TheFolds.{fold-roll-Block}
@@ -17,8 +18,8 @@ use Rattle.frag_parse.specs.declared.fault.Refusal.{Refusal}
 use Rattle.frag_parse.specs.declared.fault.Refusal.TheVariants as refusal
 use Rattle.frag_parse.specs.declared.fault.Stop.{Stop}
 use Rattle.frag_parse.specs.declared.fault.Stop.TheVariants as stop
-use Rattle.frag_parse.specs.declared.phrase.Phrase.TheVariants as phrase
-use Rattle.frag_parse.specs.declared.phrase.Sign.TheVariants as sign
+use Rattle.frag_tree.specs.declared.phrase.Phrase.TheVariants as phrase
+use Rattle.frag_parse.specs.declared.sign.Sign.TheVariants as sign
 use Rattle.frag_parse.specs.Depth.{Deep, Refuses, widened}
 use Rattle.frag_parse.specs.Nesting.{module_within, nests_within}
 use Rattle.frag_parse.specs.Reading.{Fails, Found, block_at, head_at, module_at, phrase_at, register_at, sign_at}
@@ -123,17 +124,17 @@ within_more depth (first ∷ units) unit fit one =
     both (module_within depth first) (all_within depth (units ++ unit ∷ [])) (both_left (module_within depth first) (all_within depth units) fit) (within_more depth units unit (both_right (module_within depth first) (all_within depth units) fit) one)
 
 -- what a loop over modules has so far
-abbrev pub SoFar : ℕ → List Module → List Word → Found Modules → Type 0
-SoFar depth made rest all = (joined (trees made) (all_modules rest) ≡ all) × (all_within depth (trees made) ≡ true)
+abbrev pub SoFar : (version : Version) → ℕ → List Module → List Word → Found Modules → Type 0
+SoFar version depth made rest all = (joined (trees made) ((all_modules version) rest) ≡ all) × (all_within depth (trees made) ≡ true)
 
-pub begun : (depth : ℕ) (text : List Word) → SoFar depth [] text (all_modules text)
-begun depth text = (joined-nil (all_modules text), refl)
+pub begun : (version : Version) → (depth : ℕ) (text : List Word) → (SoFar version) depth [] text ((all_modules version) text)
+begun version depth text = (joined-nil ((all_modules version) text), refl)
 
-pub goes_on : (depth : ℕ) (made : List Module) (unit : Module) (text rest : List Word) (all : Found Modules) → sign_at 0 sign.Pub text ≡ true → module_at text ≡ Some (module_tree unit, rest) → module_within depth (module_tree unit) ≡ true → SoFar depth made text all → SoFar depth (made ++ unit ∷ []) rest all
-goes_on depth made unit text rest all here read fits so_far =
-    let more : all_modules text ≡ with_others (module_tree unit) (all_modules rest) = modules_more text here ∙ ap (λ (o : Found ModuleTree). o >>= λ one. with_others one.0 (all_modules one.1)) read in (
-      ap (λ (units : List ModuleTree). joined units (all_modules rest)) (trees_more made unit)
-          ∙ (joined_more (trees made) (module_tree unit) (all_modules rest) ∙ (sym (ap (joined (trees made)) more) ∙ so_far.0)),
+pub goes_on : (version : Version) → (depth : ℕ) (made : List Module) (unit : Module) (text rest : List Word) (all : Found Modules) → sign_at 0 sign.Pub text ≡ true → (module_at version) text ≡ Some (module_tree unit, rest) → module_within depth (module_tree unit) ≡ true → (SoFar version) depth made text all → (SoFar version) depth (made ++ unit ∷ []) rest all
+goes_on version depth made unit text rest all here read fits so_far =
+    let more : (all_modules version) text ≡ with_others (module_tree unit) ((all_modules version) rest) = (modules_more version) text here ∙ ap (λ (o : Found ModuleTree). o >>= λ one. with_others one.0 ((all_modules version) one.1)) read in (
+      ap (λ (units : List ModuleTree). joined units ((all_modules version) rest)) (trees_more made unit)
+          ∙ (joined_more (trees made) (module_tree unit) ((all_modules version) rest) ∙ (sym (ap (joined (trees made)) more) ∙ so_far.0)),
       ap (all_within depth) (trees_more made unit) ∙ within_more depth (trees made) (module_tree unit) so_far.1 fits,
     )
 
@@ -154,23 +155,23 @@ deep_others : (depth : ℕ) (unit : ModuleTree) (o : Found Modules) → module_w
 deep_others depth unit None deep = tt
 deep_others depth unit (Some others) deep = before_within depth unit others.0 ∙ false_and (module_within depth unit) (nests_within depth others.0) deep
 
-pub breaks_off : (depth : ℕ) (made : List Module) (text : List Word) (all : Found Modules) (cause : Refusal) → sign_at 0 sign.Pub text ≡ true → Refuses (module_within depth) cause (module_at text) → SoFar depth made text all → Refuses (nests_within depth) cause all
-breaks_off depth made text all cause here refused so_far =
-    refuses_same (nests_within depth) cause all (joined (trees made) (all_modules text)) (sym so_far.0)
-    (joined_refuses depth cause (trees made) (all_modules text) so_far.1
-    (refuses_same (nests_within depth) cause (all_modules text) (module_at text >>= λ one. with_others one.0 (all_modules one.1)) (modules_more text here)
-    (passed_on (module_within depth) (nests_within depth) cause (module_at text) (λ one. with_others one.0 (all_modules one.1)) (λ one deep. deep_others depth one.0 (all_modules one.1) deep) refused)))
+pub breaks_off : (version : Version) → (depth : ℕ) (made : List Module) (text : List Word) (all : Found Modules) (cause : Refusal) → sign_at 0 sign.Pub text ≡ true → Refuses (module_within depth) cause ((module_at version) text) → (SoFar version) depth made text all → Refuses (nests_within depth) cause all
+breaks_off version depth made text all cause here refused so_far =
+    refuses_same (nests_within depth) cause all (joined (trees made) ((all_modules version) text)) (sym so_far.0)
+    (joined_refuses depth cause (trees made) ((all_modules version) text) so_far.1
+    (refuses_same (nests_within depth) cause ((all_modules version) text) ((module_at version) text >>= λ one. with_others one.0 ((all_modules version) one.1)) ((modules_more version) text here)
+    (passed_on (module_within depth) (nests_within depth) cause ((module_at version) text) (λ one. with_others one.0 ((all_modules version) one.1)) (λ one deep. deep_others depth one.0 ((all_modules version) one.1) deep) refused)))
 
-pub ends_wrong : (depth : ℕ) (made : List Module) (text : List Word) (all : Found Modules) (cause : Stop) → sign_at 0 sign.Pub text ≡ false → Fails cause (phrase_at phrase.Closer text) → SoFar depth made text all → Refuses (nests_within depth) (widened cause) all
-ends_wrong depth made text all cause there fails so_far =
-    refuses_same (nests_within depth) (widened cause) all (joined (trees made) (all_modules text)) (sym so_far.0)
-    (joined_refuses depth (widened cause) (trees made) (all_modules text) so_far.1
-    (refuses_same (nests_within depth) (widened cause) (all_modules text) (phrase_at phrase.Closer text >>= λ rest. Some (ended, rest)) (modules_end text there)
+pub ends_wrong : (version : Version) → (depth : ℕ) (made : List Module) (text : List Word) (all : Found Modules) (cause : Stop) → sign_at 0 sign.Pub text ≡ false → Fails cause (phrase_at phrase.Closer text) → (SoFar version) depth made text all → Refuses (nests_within depth) (widened cause) all
+ends_wrong version depth made text all cause there fails so_far =
+    refuses_same (nests_within depth) (widened cause) all (joined (trees made) ((all_modules version) text)) (sym so_far.0)
+    (joined_refuses depth (widened cause) (trees made) ((all_modules version) text) so_far.1
+    (refuses_same (nests_within depth) (widened cause) ((all_modules version) text) (phrase_at phrase.Closer text >>= λ rest. Some (ended, rest)) ((modules_end version) text there)
     (stopped (nests_within depth) cause (phrase_at phrase.Closer text) (λ rest. Some (ended, rest)) fails)))
 
-pub is_done : (depth : ℕ) (made : List Module) (text rest : List Word) (all : Found Modules) → sign_at 0 sign.Pub text ≡ false → phrase_at phrase.Closer text ≡ Some rest → SoFar depth made text all → (all ≡ Some (in_line (trees made), rest)) × (nests_within depth (in_line (trees made)) ≡ true)
-is_done depth made text rest all there closed so_far =
-    let last : all_modules text ≡ Some (ended, rest) = modules_end text there ∙ ap (λ (o : Option (List Word)). o >>= λ left. Some (ended, left)) closed in (
+pub is_done : (version : Version) → (depth : ℕ) (made : List Module) (text rest : List Word) (all : Found Modules) → sign_at 0 sign.Pub text ≡ false → phrase_at phrase.Closer text ≡ Some rest → (SoFar version) depth made text all → (all ≡ Some (in_line (trees made), rest)) × (nests_within depth (in_line (trees made)) ≡ true)
+is_done version depth made text rest all there closed so_far =
+    let last : (all_modules version) text ≡ Some (ended, rest) = (modules_end version) text there ∙ ap (λ (o : Option (List Word)). o >>= λ left. Some (ended, left)) closed in (
       sym so_far.0 ∙ (ap (joined (trees made)) last ∙ ap (λ (m : Modules). given (m, rest)) (front_line (trees made))),
       ap (nests_within depth) (sym (front_line (trees made))) ∙ (front_within depth (trees made) ended so_far.1 ∙ ended_within depth),
     )
@@ -185,60 +186,60 @@ too_deep (Some found) = refl
 abbrev pub inside_within : ℕ → BlockTree → Bool
 inside_within depth unit = nests_within depth unit.inside
 
-pub block_refused : (depth : ℕ) (text : List Word) (cause : Refusal) → sign_at 11 sign.Hash text ≡ true → Refuses (inside_within depth) cause (block_at text) → Refuses (module_within (suc depth)) cause (module_at text)
+pub block_refused : (version : Version) → (depth : ℕ) (text : List Word) (cause : Refusal) → sign_at 11 sign.Hash text ≡ true → Refuses (inside_within depth) cause ((block_at version) text) → Refuses (module_within (suc depth)) cause ((module_at version) text)
 unfolding module_at
-block_refused depth text cause here refused =
-    refuses_same (module_within (suc depth)) cause (if sign_at 11 sign.Hash text then (block_at text >>= block_module) else (register_at text >>= register_module)) (block_at text >>= block_module) (ap (λ (hit : Bool). if hit then (block_at text >>= block_module) else (register_at text >>= register_module)) here)
-    (passed_on (inside_within depth) (module_within (suc depth)) cause (block_at text) (block_module) (λ unit deep. deep) refused)
+block_refused version depth text cause here refused =
+    refuses_same (module_within (suc depth)) cause (if sign_at 11 sign.Hash text then ((block_at version) text >>= block_module) else ((register_at version) text >>= register_module)) ((block_at version) text >>= block_module) (ap (λ (hit : Bool). if hit then ((block_at version) text >>= block_module) else ((register_at version) text >>= register_module)) here)
+    (passed_on (inside_within depth) (module_within (suc depth)) cause ((block_at version) text) (block_module) (λ unit deep. deep) refused)
 
-pub register_refused : (depth : ℕ) (text : List Word) (cause : Stop) → sign_at 11 sign.Hash text ≡ false → Fails cause (register_at text) → Refuses (module_within depth) (widened cause) (module_at text)
+pub register_refused : (version : Version) → (depth : ℕ) (text : List Word) (cause : Stop) → sign_at 11 sign.Hash text ≡ false → Fails cause ((register_at version) text) → Refuses (module_within depth) (widened cause) ((module_at version) text)
 unfolding module_at
-register_refused depth text cause there fails =
-    refuses_same (module_within depth) (widened cause) (if sign_at 11 sign.Hash text then (block_at text >>= block_module) else (register_at text >>= register_module)) (register_at text >>= register_module) (ap (λ (hit : Bool). if hit then (block_at text >>= block_module) else (register_at text >>= register_module)) there)
-    (stopped (module_within depth) cause (register_at text) (register_module) fails)
+register_refused version depth text cause there fails =
+    refuses_same (module_within depth) (widened cause) (if sign_at 11 sign.Hash text then ((block_at version) text >>= block_module) else ((register_at version) text >>= register_module)) ((register_at version) text >>= register_module) (ap (λ (hit : Bool). if hit then ((block_at version) text >>= block_module) else ((register_at version) text >>= register_module)) there)
+    (stopped (module_within depth) cause ((register_at version) text) (register_module) fails)
 
-pub block_read : (text rest : List Word) (unit : BlockTree) → sign_at 11 sign.Hash text ≡ true → block_at text ≡ Some (unit, rest) → module_at text ≡ Some (one_block unit, rest)
+pub block_read : (version : Version) → (text rest : List Word) (unit : BlockTree) → sign_at 11 sign.Hash text ≡ true → (block_at version) text ≡ Some (unit, rest) → (module_at version) text ≡ Some (one_block unit, rest)
 unfolding module_at
-block_read text rest unit here read = rw (here, read) refl
+block_read version text rest unit here read = rw (here, read) refl
 
-pub register_read : (text rest : List Word) (unit : RegisterModule) → sign_at 11 sign.Hash text ≡ false → register_at text ≡ Some (unit, rest) → module_at text ≡ Some (one_register unit, rest)
+pub register_read : (version : Version) → (text rest : List Word) (unit : RegisterModule) → sign_at 11 sign.Hash text ≡ false → (register_at version) text ≡ Some (unit, rest) → (module_at version) text ≡ Some (one_register unit, rest)
 unfolding module_at
-register_read text rest unit there read = rw (there, read) refl
+register_read version text rest unit there read = rw (there, read) refl
 
 -- ---- one block
 
-pub head_refused : (depth : ℕ) (text : List Word) (cause : Stop) → Fails cause (head_at text) → Refuses (inside_within depth) (widened cause) (block_at text)
+pub head_refused : (version : Version) → (depth : ℕ) (text : List Word) (cause : Stop) → Fails cause (head_at text) → Refuses (inside_within depth) (widened cause) ((block_at version) text)
 unfolding block_at
-head_refused depth text cause fails = stopped (inside_within depth) cause (head_at text) (λ head. all_modules head.1 >>= as_block head.0) fails
+head_refused version depth text cause fails = stopped (inside_within depth) cause (head_at text) (λ head. (all_modules version) head.1 >>= as_block head.0) fails
 
-pub inside_refused : (depth : ℕ) (text rest : List Word) (head : BlockHead) (cause : Refusal) → head_at text ≡ Some (head, rest) → Refuses (nests_within depth) cause (all_modules rest) → Refuses (inside_within depth) cause (block_at text)
+pub inside_refused : (version : Version) → (depth : ℕ) (text rest : List Word) (head : BlockHead) (cause : Refusal) → head_at text ≡ Some (head, rest) → Refuses (nests_within depth) cause ((all_modules version) rest) → Refuses (inside_within depth) cause ((block_at version) text)
 unfolding block_at
-inside_refused depth text rest head cause read refused =
-    refuses_same (inside_within depth) cause (head_at text >>= λ found. all_modules found.1 >>= as_block found.0) (all_modules rest >>= as_block head) (ap (λ (o : Found BlockHead). o >>= λ found. all_modules found.1 >>= as_block found.0) read)
-    (passed_on (nests_within depth) (inside_within depth) cause (all_modules rest) (as_block head) (λ inside deep. deep) refused)
+inside_refused version depth text rest head cause read refused =
+    refuses_same (inside_within depth) cause (head_at text >>= λ found. (all_modules version) found.1 >>= as_block found.0) ((all_modules version) rest >>= as_block head) (ap (λ (o : Found BlockHead). o >>= λ found. (all_modules version) found.1 >>= as_block found.0) read)
+    (passed_on (nests_within depth) (inside_within depth) cause ((all_modules version) rest) (as_block head) (λ inside deep. deep) refused)
 
-pub inside_read : (text rest left : List Word) (head : BlockHead) (inside : Modules) → head_at text ≡ Some (head, rest) → all_modules rest ≡ Some (inside, left) → block_at text ≡ Some (built head inside, left)
+pub inside_read : (version : Version) → (text rest left : List Word) (head : BlockHead) (inside : Modules) → head_at text ≡ Some (head, rest) → (all_modules version) rest ≡ Some (inside, left) → (block_at version) text ≡ Some (built head inside, left)
 unfolding block_at
-inside_read text rest left head inside read more = rw (read, more) refl
+inside_read version text rest left head inside read more = rw (read, more) refl
 
 -- ---- as the code has them
 
-pub block_done : (depth : ℕ) (text rest left : List Word) (head : BlockHead) (made : List Module) (part : Block) → head_at text ≡ Some (head, rest) → (all_modules rest ≡ Some (in_line (trees made), left)) × (nests_within depth (in_line (trees made)) ≡ true) → block_tree part ≡ built head (in_line (trees made)) → (block_at text ≡ Some (block_tree part, left)) × (nests_within depth (block_tree part).inside ≡ true)
-block_done depth text rest left head made part read more is = (
-  inside_read text rest left head (in_line (trees made)) read more.0 ∙ ap (λ (unit : BlockTree). given (unit, left)) (sym is),
+pub block_done : (version : Version) → (depth : ℕ) (text rest left : List Word) (head : BlockHead) (made : List Module) (part : Block) → head_at text ≡ Some (head, rest) → ((all_modules version) rest ≡ Some (in_line (trees made), left)) × (nests_within depth (in_line (trees made)) ≡ true) → block_tree part ≡ built head (in_line (trees made)) → ((block_at version) text ≡ Some (block_tree part, left)) × (nests_within depth (block_tree part).inside ≡ true)
+block_done version depth text rest left head made part read more is = (
+  (inside_read version) text rest left head (in_line (trees made)) read more.0 ∙ ap (λ (unit : BlockTree). given (unit, left)) (sym is),
   ap (λ (unit : BlockTree). nests_within depth unit.inside) is ∙ more.1,
 )
 
-pub module_done : (depth inside : ℕ) (text rest : List Word) (part : Block) → depth ≡ suc inside → sign_at 11 sign.Hash text ≡ true → (block_at text ≡ Some (block_tree part, rest)) × (nests_within inside (block_tree part).inside ≡ true) → (module_at text ≡ Some (module_tree (BlockModule part), rest)) × (module_within depth (module_tree (BlockModule part)) ≡ true)
-module_done depth inside text rest part deep here read =
-    rw (module_tree-block part, deep) (block_read text rest (block_tree part) here read.0, read.1)
+pub module_done : (version : Version) → (depth inside : ℕ) (text rest : List Word) (part : Block) → depth ≡ suc inside → sign_at 11 sign.Hash text ≡ true → ((block_at version) text ≡ Some (block_tree part, rest)) × (nests_within inside (block_tree part).inside ≡ true) → ((module_at version) text ≡ Some (module_tree (BlockModule part), rest)) × (module_within depth (module_tree (BlockModule part)) ≡ true)
+module_done version depth inside text rest part deep here read =
+    rw (module_tree-block part, deep) ((block_read version) text rest (block_tree part) here read.0, read.1)
 
-pub register_done : (depth inside : ℕ) (text rest : List Word) (unit : RegisterModule) → depth ≡ suc inside → sign_at 11 sign.Hash text ≡ false → register_at text ≡ Some (unit, rest) → (module_at text ≡ Some (module_tree (RegisterOf unit), rest)) × (module_within depth (module_tree (RegisterOf unit)) ≡ true)
-register_done depth inside text rest unit deep there read =
-    rw (module_tree-register unit, deep) (register_read text rest unit there read, refl)
+pub register_done : (version : Version) → (depth inside : ℕ) (text rest : List Word) (unit : RegisterModule) → depth ≡ suc inside → sign_at 11 sign.Hash text ≡ false → (register_at version) text ≡ Some (unit, rest) → ((module_at version) text ≡ Some (module_tree (RegisterOf unit), rest)) × (module_within depth (module_tree (RegisterOf unit)) ≡ true)
+register_done version depth inside text rest unit deep there read =
+    rw (module_tree-register unit, deep) ((register_read version) text rest unit there read, refl)
 
-pub block_stops : (depth inside : ℕ) (text : List Word) (cause : Refusal) → depth ≡ suc inside → sign_at 11 sign.Hash text ≡ true → Refuses (inside_within inside) cause (block_at text) → Refuses (module_within depth) cause (module_at text)
-block_stops depth inside text cause deep here refused = rw (deep) (block_refused inside text cause here refused)
+pub block_stops : (version : Version) → (depth inside : ℕ) (text : List Word) (cause : Refusal) → depth ≡ suc inside → sign_at 11 sign.Hash text ≡ true → Refuses (inside_within inside) cause ((block_at version) text) → Refuses (module_within depth) cause ((module_at version) text)
+block_stops version depth inside text cause deep here refused = rw (deep) ((block_refused version) inside text cause here refused)
 
 -- a block that is put together
 pub block_tree-roll : (parts : Block-F Module Block) → block_tree (roll-Block parts) ≡ built (record { name = parts.name; fields = parts.fields; accessors = parts.accessors }) (in_line (trees parts.modules.items))

@@ -1,6 +1,6 @@
 -- What the readers of the productions do, step by step: each combinator of readings, with what is to be done with the tree that it gives.
 use Rattle.std.proofs.Common.{ℕ, zero, suc, ◌≡◌, List, [], ◌∷◌, ◌++◌, length, Bool, true, false, Option, Some, None, ◌⊎◌, inl, inr, refl, ap, ◌∙◌}
-use Rattle.std.specs.Prelude.{if◌then◌else◌}
+use Rattle.std.specs.Prelude.{◌&&◌, if◌then◌else◌}
 use Rattle.std.specs.Str.{bytes_eq}
 use Rattle.text_scan.specs.Steps.{◌>>=◌}
 use Rattle.frag_words.specs.Words.{Word}
@@ -58,6 +58,15 @@ in_three (Some rest) back step = refl
 in_front : {B : Type 0} (o : Option (List Word)) (one : List Word → Option (List Word)) (front : List Word) (step more : List Word → Option B) → ((rest : List Word) → (one rest >>= step) ≡ (expects front rest >>= more)) → ((o >>= one) >>= step) ≡ ((o >>= λ rest. expects front rest) >>= more)
 in_front None one front step more same = refl
 in_front (Some rest) one front step more same = same rest
+
+after_both : (o : Option (List Word)) (one front back : List Word → Option (List Word)) → ((rest : List Word) → one rest ≡ (front rest >>= back)) → (o >>= one) ≡ ((o >>= front) >>= back)
+after_both None one front back same = refl
+after_both (Some rest) one front back same = same rest
+
+pub expects-append : (front back text : List Word) → expects (front ++ back) text ≡ (expects front text >>= λ rest. expects back rest)
+unfolding expects
+expects-append [] back text = refl
+expects-append (word ∷ front) back text = after_both (word_then word text) (expects (front ++ back)) (expects front) (expects back) (λ rest. expects-append front back rest)
 
 expects_three : {B : Type 0} (front back text : List Word) (word : Word) (step : List Word → Option B) → (expects (front ++ word ∷ back) text >>= step) ≡ (expects front text >>= λ rest. word_then word rest >>= λ left. expects back left >>= step)
 unfolding expects
@@ -226,3 +235,10 @@ pub value_is : {A : Type 0} (find : Word → Option A) (text : List Word) → va
 unfolding first_at
 value_is find [] = refl
 value_is find (first ∷ others) = found_is (find first) others
+
+-- ---- one of two productions of the same trees, the first of which may not be allowed
+
+pub apart : {A B : Type 0} (allowed hit : Bool) (one other : Found A) (step : A → List Word → Option B) (first second : Option B) → then_read one step ≡ first → then_read other step ≡ second → then_read (if allowed && hit then (if allowed then one else None) else other) step ≡ (if allowed && hit then first else second)
+apart true true one other step first second same same_other = same
+apart true false one other step first second same same_other = same_other
+apart false hit one other step first second same same_other = same_other

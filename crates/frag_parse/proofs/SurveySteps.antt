@@ -5,12 +5,13 @@ use Rattle.std.proofs.lemmas.Bool.{cases_Bool, eqb-true}
 use Rattle.text_scan.specs.Steps.{◌>>=◌}
 use Rattle.frag_words.specs.Words.{Front, gap, word, Word, front_at, led_by, words_behind, words_in}
 use Rattle.frag_words.proofs.Readings.{both_left, both_right, some_is}
+use Rattle.frag_tree.specs.declared.krate.Version.{Version}
 use Rattle.frag_tree.specs.Trees.{BlockHead, BlockTree, ModuleTree, Modules, ended, one_block, one_register}
 use Rattle.frag_tree.specs.declared.register.RegisterModule.{RegisterModule}
 use Rattle.frag_parse.specs.declared.fault.Stop.{Stop}
 use Rattle.frag_parse.specs.declared.fault.Stop.TheVariants.{Unfit, Memory}
-use Rattle.frag_parse.specs.declared.phrase.Phrase.TheVariants as phrase
-use Rattle.frag_parse.specs.declared.phrase.Sign.TheVariants as sign
+use Rattle.frag_tree.specs.declared.phrase.Phrase.TheVariants as phrase
+use Rattle.frag_parse.specs.declared.sign.Sign.TheVariants as sign
 use Rattle.frag_parse.specs.Reading.{Fails, Found, block_at, blocks_at, head_at, is_end, module_at, phrase_at, register_at, sign_at}
 use Rattle.frag_parse.specs.Survey.{closes, inner_at, is_read, step_at, survey_at}
 use Rattle.frag_parse.proofs.ModuleSteps.{all_modules, as_block, block_module, built, closer_fewer, head_fewer, modules_end, modules_more, register_fewer, register_module, with_others}
@@ -20,55 +21,55 @@ abbrev Answer : Type 0
 Answer = Option (Unit {0})
 
 -- what closes so many open block modules, behind what was read
-abbrev behind : ℕ → Modules × List Word → Answer
-behind unclosed inside = closes unclosed inside.1
+abbrev behind : (version : Version) → ℕ → Modules × List Word → Answer
+behind version unclosed inside = (closes version) unclosed inside.1
 
-abbrev next_closes : ℕ × List Word → Answer
-next_closes next = closes next.0 next.1
+abbrev next_closes : (version : Version) → ℕ × List Word → Answer
+next_closes version next = (closes version) next.0 next.1
 
 abbrev counted : ℕ → List Word → Found ℕ
 counted unclosed rest = Some (unclosed, rest)
 
-abbrev one_then : ModuleTree × List Word → Found Modules
-one_then one = with_others one.0 (all_modules one.1)
+abbrev one_then : (version : Version) → ModuleTree × List Word → Found Modules
+one_then version one = with_others one.0 ((all_modules version) one.1)
 
-others_close : (unclosed : ℕ) (unit : ModuleTree) (o : Found Modules) → (with_others unit o >>= behind unclosed) ≡ (o >>= behind unclosed)
-others_close unclosed unit None = refl
-others_close unclosed unit (Some others) = refl
+others_close : (version : Version) → (unclosed : ℕ) (unit : ModuleTree) (o : Found Modules) → (with_others unit o >>= (behind version) unclosed) ≡ (o >>= (behind version) unclosed)
+others_close version unclosed unit None = refl
+others_close version unclosed unit (Some others) = refl
 
-inside_closes : (unclosed : ℕ) (head : BlockHead) (o : Found Modules) → ((((o >>= as_block head) >>= block_module) >>= one_then) >>= behind unclosed) ≡ (o >>= behind (suc unclosed))
+inside_closes : (version : Version) → (unclosed : ℕ) (head : BlockHead) (o : Found Modules) → ((((o >>= as_block head) >>= block_module) >>= (one_then version)) >>= (behind version) unclosed) ≡ (o >>= (behind version) (suc unclosed))
 unfolding closes
-inside_closes unclosed head None = refl
-inside_closes unclosed head (Some inside) = others_close unclosed (one_block (built head inside.0)) (all_modules inside.1)
+inside_closes version unclosed head None = refl
+inside_closes version unclosed head (Some inside) = (others_close version) unclosed (one_block (built head inside.0)) ((all_modules version) inside.1)
 
-head_closes : (unclosed : ℕ) (o : Found BlockHead) → ((((o >>= λ head. all_modules head.1 >>= as_block head.0) >>= block_module) >>= one_then) >>= behind unclosed) ≡ ((o >>= λ head. counted (suc unclosed + 1) head.1) >>= next_closes)
+head_closes : (version : Version) → (unclosed : ℕ) (o : Found BlockHead) → ((((o >>= λ head. (all_modules version) head.1 >>= as_block head.0) >>= block_module) >>= (one_then version)) >>= (behind version) unclosed) ≡ ((o >>= λ head. counted (suc unclosed + 1) head.1) >>= (next_closes version))
 unfolding closes
-head_closes unclosed None = refl
-head_closes unclosed (Some head) =
+head_closes version unclosed None = refl
+head_closes version unclosed (Some head) =
     let more : suc (suc unclosed) ≡ suc unclosed + 1 = omega arith in
-    inside_closes unclosed head.0 (all_modules head.1) ∙ ap (λ k. closes k head.1) more
+    (inside_closes version) unclosed head.0 ((all_modules version) head.1) ∙ ap (λ k. (closes version) k head.1) more
 
-register_closes : (unclosed : ℕ) (o : Found RegisterModule) → (((o >>= register_module) >>= one_then) >>= behind unclosed) ≡ ((o >>= λ unit. counted (suc unclosed) unit.1) >>= next_closes)
+register_closes : (version : Version) → (unclosed : ℕ) (o : Found RegisterModule) → (((o >>= register_module) >>= (one_then version)) >>= (behind version) unclosed) ≡ ((o >>= λ unit. counted (suc unclosed) unit.1) >>= (next_closes version))
 unfolding closes
-register_closes unclosed None = refl
-register_closes unclosed (Some unit) = others_close unclosed (one_register unit.0) (all_modules unit.1)
+register_closes version unclosed None = refl
+register_closes version unclosed (Some unit) = (others_close version) unclosed (one_register unit.0) ((all_modules version) unit.1)
 
-picked_closes : (unclosed : ℕ) (is_block : Bool) (text : List Word) → (((if is_block then (block_at text >>= block_module) else (register_at text >>= register_module)) >>= one_then) >>= behind unclosed) ≡ ((if is_block then (head_at text >>= λ head. counted (suc unclosed + 1) head.1) else (register_at text >>= λ unit. counted (suc unclosed) unit.1)) >>= next_closes)
+picked_closes : (version : Version) → (unclosed : ℕ) (is_block : Bool) (text : List Word) → (((if is_block then ((block_at version) text >>= block_module) else ((register_at version) text >>= register_module)) >>= (one_then version)) >>= (behind version) unclosed) ≡ ((if is_block then (head_at text >>= λ head. counted (suc unclosed + 1) head.1) else ((register_at version) text >>= λ unit. counted (suc unclosed) unit.1)) >>= (next_closes version))
 unfolding block_at
-picked_closes unclosed true text = head_closes unclosed (head_at text)
-picked_closes unclosed false text = register_closes unclosed (register_at text)
+picked_closes version unclosed true text = (head_closes version) unclosed (head_at text)
+picked_closes version unclosed false text = (register_closes version) unclosed ((register_at version) text)
 
-inner_closes : (unclosed : ℕ) (text : List Word) → sign_at 0 sign.Pub text ≡ true → closes (suc unclosed) text ≡ (inner_at (suc unclosed) text >>= next_closes)
+inner_closes : (version : Version) → (unclosed : ℕ) (text : List Word) → sign_at 0 sign.Pub text ≡ true → (closes version) (suc unclosed) text ≡ ((inner_at version) (suc unclosed) text >>= (next_closes version))
 unfolding closes inner_at module_at
-inner_closes unclosed text here = ap (λ (o : Found Modules). o >>= behind unclosed) (modules_more text here) ∙ picked_closes unclosed (sign_at 11 sign.Hash text) text
+inner_closes version unclosed text here = ap (λ (o : Found Modules). o >>= (behind version) unclosed) ((modules_more version) text here) ∙ (picked_closes version) unclosed (sign_at 11 sign.Hash text) text
 
-closer_last : (unclosed : ℕ) (o : Option (List Word)) → ((o >>= λ rest. Some (ended, rest)) >>= behind unclosed) ≡ ((o >>= λ rest. counted unclosed rest) >>= next_closes)
-closer_last unclosed None = refl
-closer_last unclosed (Some rest) = refl
+closer_last : (version : Version) → (unclosed : ℕ) (o : Option (List Word)) → ((o >>= λ rest. Some (ended, rest)) >>= (behind version) unclosed) ≡ ((o >>= λ rest. counted unclosed rest) >>= (next_closes version))
+closer_last version unclosed None = refl
+closer_last version unclosed (Some rest) = refl
 
-closer_closes : (unclosed : ℕ) (text : List Word) → sign_at 0 sign.Pub text ≡ false → closes (suc unclosed) text ≡ ((phrase_at phrase.Closer text >>= λ rest. counted unclosed rest) >>= next_closes)
+closer_closes : (version : Version) → (unclosed : ℕ) (text : List Word) → sign_at 0 sign.Pub text ≡ false → (closes version) (suc unclosed) text ≡ ((phrase_at phrase.Closer text >>= λ rest. counted unclosed rest) >>= (next_closes version))
 unfolding closes
-closer_closes unclosed text there = ap (λ (o : Found Modules). o >>= behind unclosed) (modules_end text there) ∙ closer_last unclosed (phrase_at phrase.Closer text)
+closer_closes version unclosed text there = ap (λ (o : Found Modules). o >>= (behind version) unclosed) ((modules_end version) text there) ∙ (closer_last version) unclosed (phrase_at phrase.Closer text)
 
 -- ---- at the top
 
@@ -76,25 +77,25 @@ top_others : (unit : BlockTree) (o : Found (List BlockTree)) → is_read (crates
 top_others unit None = refl
 top_others unit (Some found) = refl
 
-top_inside : (head : BlockHead) (o : Found Modules) → is_read ((o >>= as_block head) >>= crates.next_block) ≡ (o >>= behind 0)
+top_inside : (version : Version) → (head : BlockHead) (o : Found Modules) → is_read ((o >>= as_block head) >>= (crates.next_block version)) ≡ (o >>= (behind version) 0)
 unfolding closes
-top_inside head None = refl
-top_inside head (Some inside) = top_others (built head inside.0) (blocks_at inside.1)
+top_inside version head None = refl
+top_inside version head (Some inside) = top_others (built head inside.0) ((blocks_at version) inside.1)
 
-top_head : (o : Found BlockHead) → is_read ((o >>= λ head. all_modules head.1 >>= as_block head.0) >>= crates.next_block) ≡ ((o >>= λ head. counted 1 head.1) >>= next_closes)
+top_head : (version : Version) → (o : Found BlockHead) → is_read ((o >>= λ head. (all_modules version) head.1 >>= as_block head.0) >>= (crates.next_block version)) ≡ ((o >>= λ head. counted 1 head.1) >>= (next_closes version))
 unfolding closes
-top_head None = refl
-top_head (Some head) = top_inside head.0 (all_modules head.1)
+top_head version None = refl
+top_head version (Some head) = (top_inside version) head.0 ((all_modules version) head.1)
 
-top_closes : (text : List Word) → is_end text ≡ false → closes 0 text ≡ ((head_at text >>= λ head. counted 1 head.1) >>= next_closes)
+top_closes : (version : Version) → (text : List Word) → is_end text ≡ false → (closes version) 0 text ≡ ((head_at text >>= λ head. counted 1 head.1) >>= (next_closes version))
 unfolding closes block_at
-top_closes text some = ap is_read (crates.more_at text some) ∙ top_head (head_at text)
+top_closes version text some = ap is_read ((crates.more_at version) text some) ∙ (top_head version) (head_at text)
 
 -- ---- one step
 
-module_or_closer : (unclosed : ℕ) (text : List Word) (is_module : Bool) → sign_at 0 sign.Pub text ≡ is_module → closes (suc unclosed) text ≡ ((if is_module then inner_at (suc unclosed) text else (phrase_at phrase.Closer text >>= λ rest. counted unclosed rest)) >>= next_closes)
-module_or_closer unclosed text true here = inner_closes unclosed text here
-module_or_closer unclosed text false there = closer_closes unclosed text there
+module_or_closer : (version : Version) → (unclosed : ℕ) (text : List Word) (is_module : Bool) → sign_at 0 sign.Pub text ≡ is_module → (closes version) (suc unclosed) text ≡ ((if is_module then (inner_at version) (suc unclosed) text else (phrase_at phrase.Closer text >>= λ rest. counted unclosed rest)) >>= (next_closes version))
+module_or_closer version unclosed text true here = (inner_closes version) unclosed text here
+module_or_closer version unclosed text false there = (closer_closes version) unclosed text there
 
 not_zero : (n : ℕ) → eqb (suc n) 0 ≡ false
 not_zero n =
@@ -103,46 +104,46 @@ not_zero n =
       | inr other ↦ other
     ]
 
-abbrev inside_step : ℕ → ℕ → List Word → Found ℕ
-inside_step unclosed outer text = if sign_at 0 sign.Pub text then inner_at unclosed text else (phrase_at phrase.Closer text >>= λ rest. counted outer rest)
+abbrev inside_step : (version : Version) → ℕ → ℕ → List Word → Found ℕ
+inside_step version unclosed outer text = if sign_at 0 sign.Pub text then (inner_at version) unclosed text else (phrase_at phrase.Closer text >>= λ rest. counted outer rest)
 
-step_inside : (unclosed : ℕ) (text : List Word) → step_at (suc unclosed) text ≡ inside_step (suc unclosed) unclosed text
+step_inside : (version : Version) → (unclosed : ℕ) (text : List Word) → (step_at version) (suc unclosed) text ≡ (inside_step version) (suc unclosed) unclosed text
 unfolding step_at
-step_inside unclosed text =
+step_inside version unclosed text =
     let less : suc unclosed - 1 ≡ unclosed = omega arith in
-    ap (λ (hit : Bool). if hit then (head_at text >>= λ head. counted 1 head.1) else inside_step (suc unclosed) (suc unclosed - 1) text) (not_zero unclosed)
-    ∙ ap (λ k. inside_step (suc unclosed) k text) less
+    ap (λ (hit : Bool). if hit then (head_at text >>= λ head. counted 1 head.1) else (inside_step version) (suc unclosed) (suc unclosed - 1) text) (not_zero unclosed)
+    ∙ ap (λ k. (inside_step version) (suc unclosed) k text) less
 
 -- where the survey isn't at its end, a step leaves what is to be closed
-pub step_closes : (unclosed : ℕ) (text : List Word) → (unclosed ≡ 0 → is_end text ≡ false) → closes unclosed text ≡ (step_at unclosed text >>= next_closes)
+pub step_closes : (version : Version) → (unclosed : ℕ) (text : List Word) → (unclosed ≡ 0 → is_end text ≡ false) → (closes version) unclosed text ≡ ((step_at version) unclosed text >>= (next_closes version))
 unfolding step_at
-step_closes zero text some = top_closes text (some refl)
-step_closes (suc unclosed) text some = module_or_closer unclosed text (sign_at 0 sign.Pub text) refl ∙ ap (λ (o : Found ℕ). o >>= next_closes) (sym (step_inside unclosed text))
+step_closes version zero text some = (top_closes version) text (some refl)
+step_closes version (suc unclosed) text some = (module_or_closer version) unclosed text (sign_at 0 sign.Pub text) refl ∙ ap (λ (o : Found ℕ). o >>= (next_closes version)) (sym ((step_inside version) unclosed text))
 
-pub goes_on : (unclosed next : ℕ) (text rest : List Word) (all : Answer) → (unclosed ≡ 0 → is_end text ≡ false) → step_at unclosed text ≡ Some (next, rest) → closes unclosed text ≡ all → closes next rest ≡ all
-goes_on unclosed next text rest all some met so_far = sym (step_closes unclosed text some ∙ ap (λ (o : Found ℕ). o >>= next_closes) met) ∙ so_far
+pub goes_on : (version : Version) → (unclosed next : ℕ) (text rest : List Word) (all : Answer) → (unclosed ≡ 0 → is_end text ≡ false) → (step_at version) unclosed text ≡ Some (next, rest) → (closes version) unclosed text ≡ all → (closes version) next rest ≡ all
+goes_on version unclosed next text rest all some met so_far = sym ((step_closes version) unclosed text some ∙ ap (λ (o : Found ℕ). o >>= (next_closes version)) met) ∙ so_far
 
-breaks : (unclosed : ℕ) (text : List Word) (all : Answer) → (unclosed ≡ 0 → is_end text ≡ false) → step_at unclosed text ≡ None → closes unclosed text ≡ all → all ≡ None
-breaks unclosed text all some missed so_far = sym so_far ∙ (step_closes unclosed text some ∙ ap (λ (o : Found ℕ). o >>= next_closes) missed)
+breaks : (version : Version) → (unclosed : ℕ) (text : List Word) (all : Answer) → (unclosed ≡ 0 → is_end text ≡ false) → (step_at version) unclosed text ≡ None → (closes version) unclosed text ≡ all → all ≡ None
+breaks version unclosed text all some missed so_far = sym so_far ∙ ((step_closes version) unclosed text some ∙ ap (λ (o : Found ℕ). o >>= (next_closes version)) missed)
 
-pub breaks_off : (unclosed : ℕ) (text : List Word) (all : Answer) (cause : Stop) → (unclosed ≡ 0 → is_end text ≡ false) → Fails cause (step_at unclosed text) → closes unclosed text ≡ all → Fails cause all
-breaks_off unclosed text all (Unfit left) some missed so_far = breaks unclosed text all some missed so_far
-breaks_off unclosed text all Memory some missed so_far = tt
+pub breaks_off : (version : Version) → (unclosed : ℕ) (text : List Word) (all : Answer) (cause : Stop) → (unclosed ≡ 0 → is_end text ≡ false) → Fails cause ((step_at version) unclosed text) → (closes version) unclosed text ≡ all → Fails cause all
+breaks_off version unclosed text all (Unfit left) some missed so_far = (breaks version) unclosed text all some missed so_far
+breaks_off version unclosed text all Memory some missed so_far = tt
 
 end_is : (text : List Word) → is_end text ≡ true → text ≡ []
 end_is [] here = refl
 end_is (first ∷ others) here = absurd cc
 
-end_closes : closes 0 [] ≡ Some tt
+end_closes : (version : Version) → (closes version) 0 [] ≡ Some tt
 unfolding closes
-end_closes = ap is_read crates.blocks_end
+end_closes version = ap is_read (crates.blocks_end version)
 
-pub is_done : (unclosed : ℕ) (text : List Word) (all : Answer) → unclosed ≡ 0 → is_end text ≡ true → closes unclosed text ≡ all → all ≡ Some tt
-is_done unclosed text all none here so_far = sym so_far ∙ (rw (none, end_is text here) end_closes)
+pub is_done : (version : Version) → (unclosed : ℕ) (text : List Word) (all : Answer) → unclosed ≡ 0 → is_end text ≡ true → (closes version) unclosed text ≡ all → all ≡ Some tt
+is_done version unclosed text all none here so_far = sym so_far ∙ (rw (none, end_is text here) (end_closes version))
 
-pub begun : (text : List Word) → closes 0 text ≡ survey_at text
+pub begun : (version : Version) → (text : List Word) → (closes version) 0 text ≡ (survey_at version) text
 unfolding closes survey_at
-begun text = refl
+begun version text = refl
 
 -- ---- how many are open
 
@@ -169,11 +170,11 @@ head_counted unclosed next text rest e =
     let less = head_fewer text head.0.0 head.0.1 head.1 in
     (omega (arith, less, ap length same.1), omega (arith, less, ap length same.1, same.0))
 
-register_counted : (unclosed next : ℕ) (text rest : List Word) → (register_at text >>= λ unit. counted unclosed unit.1) ≡ given (next, rest) → Counted unclosed text next rest
-register_counted unclosed next text rest e =
-    let unit = bound_some (register_at text) (λ unit. counted unclosed unit.1) (next, rest) e in
+register_counted : (version : Version) → (unclosed next : ℕ) (text rest : List Word) → ((register_at version) text >>= λ unit. counted unclosed unit.1) ≡ given (next, rest) → Counted unclosed text next rest
+register_counted version unclosed next text rest e =
+    let unit = bound_some ((register_at version) text) (λ unit. counted unclosed unit.1) (next, rest) e in
     let same = same_count unclosed next unit.0.1 rest unit.2 in
-    let less = register_fewer text unit.0.0 unit.0.1 unit.1 in
+    let less = (register_fewer version) text unit.0.0 unit.0.1 unit.1 in
     (omega (arith, less, ap length same.1), omega (arith, less, ap length same.1, same.0))
 
 closer_counted : (unclosed next : ℕ) (text rest : List Word) → (phrase_at phrase.Closer text >>= λ left. counted unclosed left) ≡ given (next, rest) → Counted (suc unclosed) text next rest
@@ -183,19 +184,19 @@ closer_counted unclosed next text rest e =
     let less = closer_fewer text left.0 left.1 in
     (omega (arith, less, ap length same.1), omega (arith, less, ap length same.1, same.0))
 
-inner_counted : (unclosed next : ℕ) (text rest : List Word) (is_block : Bool) → (if is_block then (head_at text >>= λ head. counted (unclosed + 1) head.1) else (register_at text >>= λ unit. counted unclosed unit.1)) ≡ given (next, rest) → Counted unclosed text next rest
-inner_counted unclosed next text rest true e = head_counted unclosed next text rest e
-inner_counted unclosed next text rest false e = register_counted unclosed next text rest e
+inner_counted : (version : Version) → (unclosed next : ℕ) (text rest : List Word) (is_block : Bool) → (if is_block then (head_at text >>= λ head. counted (unclosed + 1) head.1) else ((register_at version) text >>= λ unit. counted unclosed unit.1)) ≡ given (next, rest) → Counted unclosed text next rest
+inner_counted version unclosed next text rest true e = head_counted unclosed next text rest e
+inner_counted version unclosed next text rest false e = (register_counted version) unclosed next text rest e
 
-outer_counted : (unclosed next : ℕ) (text rest : List Word) (is_module : Bool) → (if is_module then inner_at (suc unclosed) text else (phrase_at phrase.Closer text >>= λ left. counted unclosed left)) ≡ given (next, rest) → Counted (suc unclosed) text next rest
+outer_counted : (version : Version) → (unclosed next : ℕ) (text rest : List Word) (is_module : Bool) → (if is_module then (inner_at version) (suc unclosed) text else (phrase_at phrase.Closer text >>= λ left. counted unclosed left)) ≡ given (next, rest) → Counted (suc unclosed) text next rest
 unfolding inner_at
-outer_counted unclosed next text rest true e = inner_counted (suc unclosed) next text rest (sign_at 11 sign.Hash text) e
-outer_counted unclosed next text rest false e = closer_counted unclosed next text rest e
+outer_counted version unclosed next text rest true e = (inner_counted version) (suc unclosed) next text rest (sign_at 11 sign.Hash text) e
+outer_counted version unclosed next text rest false e = closer_counted unclosed next text rest e
 
-pub step_counted : (unclosed next : ℕ) (text rest : List Word) → step_at unclosed text ≡ Some (next, rest) → Counted unclosed text next rest
+pub step_counted : (version : Version) → (unclosed next : ℕ) (text rest : List Word) → (step_at version) unclosed text ≡ Some (next, rest) → Counted unclosed text next rest
 unfolding step_at
-step_counted zero next text rest e = head_counted 0 next text rest e
-step_counted (suc unclosed) next text rest e = outer_counted unclosed next text rest (sign_at 0 sign.Pub text) (sym (step_inside unclosed text) ∙ e)
+step_counted version zero next text rest e = head_counted 0 next text rest e
+step_counted version (suc unclosed) next text rest e = (outer_counted version) unclosed next text rest (sign_at 0 sign.Pub text) (sym ((step_inside version) unclosed text) ∙ e)
 
 -- a text has no more words than bytes
 fewer_behind : (front : Front) (first : ℕ) (others : List ℕ) (words : ℕ → List Word) → ((n : ℕ) → length (words n) ≤ length others) → length (led_by front first others words) ≤ length (first ∷ others)
@@ -216,30 +217,30 @@ few_words text = few_behind text 0
 abbrev pub is_closed : ℕ → List Word → Bool
 is_closed unclosed text = eqb unclosed 0 && is_end text
 
-abbrev pub SoFar : ℕ → List Word → List Word → Type 0
-SoFar unclosed rest text = (closes unclosed rest ≡ survey_at text) × (unclosed + length rest ≤ length text)
+abbrev pub SoFar : (version : Version) → ℕ → List Word → List Word → Type 0
+SoFar version unclosed rest text = ((closes version) unclosed rest ≡ (survey_at version) text) × (unclosed + length rest ≤ length text)
 
-pub survey_begun : (text : List Word) → SoFar 0 text text
-survey_begun text = (begun text, omega arith)
+pub survey_begun : (version : Version) → (text : List Word) → (SoFar version) 0 text text
+survey_begun version text = ((begun version) text, omega arith)
 
 some_left : (unclosed : ℕ) (text : List Word) → is_closed unclosed text ≡ false → unclosed ≡ 0 → is_end text ≡ false
 some_left unclosed text e none = sym (ap (λ (n : ℕ). eqb n 0 && is_end text) none) ∙ e
 
-pub survey_fits : (unclosed total : ℕ) (bytes : List ℕ) (rest : List Word) → length bytes ≡ total → total < 2 ^ 64 → SoFar unclosed rest (words_in bytes) → unclosed + length rest < 2 ^ 64
-survey_fits unclosed total bytes rest is small so_far = omega (arith, is, small, so_far.1, few_words bytes)
+pub survey_fits : (version : Version) → (unclosed total : ℕ) (bytes : List ℕ) (rest : List Word) → length bytes ≡ total → total < 2 ^ 64 → (SoFar version) unclosed rest (words_in bytes) → unclosed + length rest < 2 ^ 64
+survey_fits version unclosed total bytes rest is small so_far = omega (arith, is, small, so_far.1, few_words bytes)
 
-pub survey_on : (unclosed next : ℕ) (rest after text : List Word) → is_closed unclosed rest ≡ false → step_at unclosed rest ≡ Some (next, after) → SoFar unclosed rest text → SoFar next after text
-survey_on unclosed next rest after text left met so_far = (
-  goes_on unclosed next rest after (survey_at text) (some_left unclosed rest left) met so_far.0,
-  omega (arith, so_far.1, (step_counted unclosed next rest after met).1),
+pub survey_on : (version : Version) → (unclosed next : ℕ) (rest after text : List Word) → is_closed unclosed rest ≡ false → (step_at version) unclosed rest ≡ Some (next, after) → (SoFar version) unclosed rest text → (SoFar version) next after text
+survey_on version unclosed next rest after text left met so_far = (
+  (goes_on version) unclosed next rest after ((survey_at version) text) (some_left unclosed rest left) met so_far.0,
+  omega (arith, so_far.1, ((step_counted version) unclosed next rest after met).1),
 )
 
-pub survey_smaller : (unclosed next : ℕ) (rest after : List Word) → step_at unclosed rest ≡ Some (next, after) → length after < length rest
-survey_smaller unclosed next rest after met = (step_counted unclosed next rest after met).0
+pub survey_smaller : (version : Version) → (unclosed next : ℕ) (rest after : List Word) → (step_at version) unclosed rest ≡ Some (next, after) → length after < length rest
+survey_smaller version unclosed next rest after met = ((step_counted version) unclosed next rest after met).0
 
-pub survey_off : (unclosed : ℕ) (rest text : List Word) (cause : Stop) → is_closed unclosed rest ≡ false → Fails cause (step_at unclosed rest) → SoFar unclosed rest text → Fails cause (survey_at text)
-survey_off unclosed rest text cause left missed so_far = breaks_off unclosed rest (survey_at text) cause (some_left unclosed rest left) missed so_far.0
+pub survey_off : (version : Version) → (unclosed : ℕ) (rest text : List Word) (cause : Stop) → is_closed unclosed rest ≡ false → Fails cause ((step_at version) unclosed rest) → (SoFar version) unclosed rest text → Fails cause ((survey_at version) text)
+survey_off version unclosed rest text cause left missed so_far = (breaks_off version) unclosed rest ((survey_at version) text) cause (some_left unclosed rest left) missed so_far.0
 
-pub survey_done : (unclosed : ℕ) (rest text : List Word) → is_closed unclosed rest ≡ true → SoFar unclosed rest text → survey_at text ≡ Some tt
-survey_done unclosed rest text closed so_far =
-    is_done unclosed rest (survey_at text) (eqb-true unclosed 0 (both_left (eqb unclosed 0) (is_end rest) closed)) (both_right (eqb unclosed 0) (is_end rest) closed) so_far.0
+pub survey_done : (version : Version) → (unclosed : ℕ) (rest text : List Word) → is_closed unclosed rest ≡ true → (SoFar version) unclosed rest text → (survey_at version) text ≡ Some tt
+survey_done version unclosed rest text closed so_far =
+    (is_done version) unclosed rest ((survey_at version) text) (eqb-true unclosed 0 (both_left (eqb unclosed 0) (is_end rest) closed)) (both_right (eqb unclosed 0) (is_end rest) closed) so_far.0

@@ -4,51 +4,47 @@ use Rattle.std.specs.Prelude.{IfErr, IfOk, Result}
 use Rattle.text_scan.specs.Steps.{◌>>=◌}
 use Rattle.frag_words.specs.Words.{Word, words_in}
 use Rattle.frag_words.proofs.Readings.{some_is}
-use Rattle.frag_tree.specs.Productions.{slot_reading}
 use Rattle.frag_tree.specs.Trees.{BlockTree, CrateTree, crate_tree}
 use Rattle.frag_tree.specs.declared.krate.Crate.{Crate}
 use Rattle.frag_tree.specs.declared.krate.Slot.{Slot}
+use Rattle.frag_tree.specs.declared.krate.Version.{Version}
+use Rattle.frag_tree.specs.Validity.{valid_crate}
 use Rattle.frag_parse.specs.declared.fault.ParseFault.{ParseFault}
 use Rattle.frag_parse.specs.declared.fault.ParseFault.TheVariants.{Syntax, TooDeep, Memory}
 use Rattle.frag_parse.specs.declared.fault.Refusal.{Refusal}
 use Rattle.frag_parse.specs.declared.fault.Refusal.TheVariants as refusal
 use Rattle.frag_parse.specs.declared.fault.Stop.{Stop}
 use Rattle.frag_parse.specs.declared.fault.Stop.TheVariants as stop
-use Rattle.frag_parse.specs.declared.phrase.Phrase.TheVariants as phrase
 use Rattle.frag_parse.specs.Depth.{Deep, IsDeep, Refuses, Tells}
 use Rattle.frag_parse.specs.Nesting.{crate_within}
 use Rattle.frag_parse.specs.Parsing.{DeepCrate, IsCrateOf, IsParsedAs, RefusedFor}
-use Rattle.frag_parse.specs.Reading.{Fails, Found, begins_pub, blocks_at, braced_at, crate_at, phrase_at}
+use Rattle.frag_parse.specs.Reading.{Fails, Found, blocks_at, crate_at, opening_at}
 use Rattle.frag_parse.specs.Survey.{is_read, survey_at, surveyed_at}
-use Rattle.frag_parse.proofs.CrateSteps.{behind_head, behind_slots, crate_is_read, made_of, read_is_crate, tree_of, units_of, blocks_within, whole_read}
+use Rattle.frag_parse.proofs.CrateSteps.{behind_opening, crate_is_read, made_of, read_is_crate, tree_of, units_of, blocks_within, whole_read}
 
 abbrev given : {A : Type 0} → A → Option A
 given x = Some x
 
 -- ---- the whole
 
-pub whole_done : (text rest left : List Word) (krate : Crate) → phrase_at phrase.CrateHead text ≡ Some rest → braced_at begins_pub slot_reading.read rest ≡ Some (krate.slots, left) → (blocks_at left ≡ Some (units_of krate.blocks.items, [])) × (blocks_within (units_of krate.blocks.items) ≡ true) → (crate_at text ≡ Some (crate_tree krate, [])) × (crate_within 64 (crate_tree krate) ≡ true)
+pub whole_done : (text rest : List Word) (krate : Crate) → opening_at text ≡ Some ((krate.version, krate.slots), rest) → (blocks_at krate.version rest ≡ Some (units_of krate.blocks.items, [])) × (blocks_within (units_of krate.blocks.items) ≡ true) → (crate_at text ≡ Some (crate_tree krate, [])) × (crate_within 64 (crate_tree krate) ≡ true)
 unfolding crate_tree
-whole_done text rest left krate read listed blocks = (whole_read text rest left krate (units_of krate.blocks.items) read listed blocks.0 refl, blocks.1)
+whole_done text rest krate read blocks = (whole_read text rest krate (units_of krate.blocks.items) read blocks.0 refl, blocks.1)
 
 -- ---- the survey
 
-survey_blocks : (slots : List Slot) (o : Found (List BlockTree)) → is_read o ≡ is_read (o >>= made_of slots)
-survey_blocks slots None = refl
-survey_blocks slots (Some blocks) = refl
+survey_blocks : (version : Version) (slots : List Slot) (o : Found (List BlockTree)) → is_read o ≡ is_read (o >>= made_of version slots)
+survey_blocks version slots None = refl
+survey_blocks version slots (Some blocks) = refl
 
-survey_slots : (o : Found (List Slot)) → (o >>= λ slots. survey_at slots.1) ≡ is_read (o >>= behind_slots)
+survey_opening : (o : Found (Version × List Slot)) → (o >>= λ opening. survey_at opening.0.0 opening.1) ≡ is_read (o >>= behind_opening)
 unfolding survey_at
-survey_slots None = refl
-survey_slots (Some slots) = survey_blocks slots.0 (blocks_at slots.1)
-
-survey_head : (o : Option (List Word)) → (o >>= λ rest. braced_at begins_pub slot_reading.read rest >>= λ slots. survey_at slots.1) ≡ is_read (o >>= behind_head)
-survey_head None = refl
-survey_head (Some rest) = survey_slots (braced_at begins_pub slot_reading.read rest)
+survey_opening None = refl
+survey_opening (Some opening) = survey_blocks opening.0.0 opening.0.1 (blocks_at opening.0.0 opening.1)
 
 surveyed_is : (text : List Word) → surveyed_at text ≡ is_read (crate_at text)
 unfolding surveyed_at crate_at
-surveyed_is text = survey_head (phrase_at phrase.CrateHead text)
+surveyed_is text = survey_opening (opening_at text)
 
 deep_read : (o : Found CrateTree) → Deep (crate_within 64) o → is_read o ≡ Some tt → IsDeep o
 deep_read None deep read = absurd cc
@@ -71,6 +67,10 @@ is_none text cause left is fails =
 pub spelled : (bytes : List ℕ) (result : Result Crate ParseFault) → Tells result (crate_at (words_in bytes)) → IfOk result (λ krate. IsCrateOf bytes (crate_tree krate))
 spelled bytes (Ok krate) told = read_is_crate bytes (crate_tree krate) [] told.0
 spelled bytes (Err fault) told = tt
+
+pub valid : (bytes : List ℕ) (result : Result Crate ParseFault) → Tells result (crate_at (words_in bytes)) → IfOk result (λ krate. valid_crate (crate_tree krate) ≡ true)
+valid bytes (Ok krate) told = (read_is_crate bytes (crate_tree krate) [] told.0).valid
+valid bytes (Err fault) told = tt
 
 pub bounded : (bytes : List ℕ) (result : Result Crate ParseFault) → Tells result (crate_at (words_in bytes)) → IfOk result (λ krate. crate_within 64 (crate_tree krate) ≡ true)
 bounded bytes (Ok krate) told = told.1

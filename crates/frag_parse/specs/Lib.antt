@@ -1,6 +1,6 @@
 pub mod Nesting
 pub mod Parsing
-pub mod Phrases
+pub mod Signs
 pub mod Reading
 pub mod Shrinking
 pub mod Depth

@@ -3,15 +3,15 @@ use Rattle.std.specs.Prelude.{ℕ, zero, suc, ◌≡◌, ◌<◌, Bool, true, fa
 use Rattle.std.specs.Str.{bytes_eq}
 use Rattle.text_scan.specs.Steps.{◌>>=◌}
 use Rattle.frag_words.specs.Words.{Word}
-use Rattle.frag_words.specs.Readings.{among, word_is}
+use Rattle.frag_words.specs.Readings.{Reading, among, word_is}
 use Rattle.text_scan.specs.Numbers.{value_of}
 use Rattle.frag_tree.specs.Identifiers.{is_identifier}
 use Rattle.frag_tree.specs.Numerals.{decimal_word, hexadecimal_word, truth_word, width_word}
 use Rattle.frag_tree.specs.Registers.{kind_word}
 use Rattle.frag_tree.specs.ModuleProductions.{modules_reading, read_blocks}
 use Rattle.frag_tree.specs.Productions.{access_reading, field_reading, numeral_at, slot_reading}
-use Rattle.frag_tree.specs.RegisterProductions.{marker_reading, number_test, number_write, reader_reading, truth_test, truth_write, values_reading, writer_reading}
-use Rattle.frag_tree.specs.Trees.{BlockHead, BlockTree, CrateTree, ModuleTree, one_block, one_register}
+use Rattle.frag_tree.specs.RegisterProductions.{marker_reading, number_test, number_write, reader_reading, reader_type, truth_test, truth_write, values_reading, writer_reading, writer_type}
+use Rattle.frag_tree.specs.Trees.{BlockHead, BlockTree, CrateTree, ModuleTree, one_block, one_register, takes_index}
 use Rattle.frag_tree.specs.declared.access.Access.{Access}
 use Rattle.frag_tree.specs.declared.access.Body.{Body}
 use Rattle.frag_tree.specs.declared.access.Body.TheVariants as body
@@ -21,6 +21,10 @@ use Rattle.frag_tree.specs.declared.block.FieldType.{FieldType}
 use Rattle.frag_tree.specs.declared.block.FieldType.TheVariants as holds
 use Rattle.frag_tree.specs.declared.block.StructField.{StructField}
 use Rattle.frag_tree.specs.declared.krate.Slot.{Slot}
+use Rattle.frag_tree.specs.declared.krate.Version.{Version}
+use Rattle.frag_tree.specs.declared.krate.Version.TheVariants.{One, Two}
+use Rattle.frag_tree.specs.declared.register.Spot.{Spot}
+use Rattle.frag_tree.specs.declared.register.Spot.TheVariants.{Fixed, Indexed}
 use Rattle.frag_tree.specs.declared.register.BitKind.{BitKind}
 use Rattle.frag_tree.specs.declared.register.BitKind.TheVariants as kind
 use Rattle.frag_tree.specs.declared.register.Constant.{Constant}
@@ -38,11 +42,14 @@ use Rattle.pac_base.specs.declared.width.Width.{Width}
 use Rattle.pac_base.specs.declared.width.Width.TheVariants.{W8, W16, W32, W64}
 use Rattle.frag_parse.specs.declared.fault.Stop.{Stop}
 use Rattle.frag_parse.specs.declared.fault.Stop.TheVariants.{Unfit, Memory}
-use Rattle.frag_parse.specs.declared.phrase.Phrase.{Phrase}
-use Rattle.frag_parse.specs.declared.phrase.Phrase.TheVariants as phrase
-use Rattle.frag_parse.specs.declared.phrase.Sign.{Sign}
-use Rattle.frag_parse.specs.declared.phrase.Sign.TheVariants as sign
-use Rattle.frag_parse.specs.Phrases.{words_of, sign_word}
+use Rattle.frag_tree.specs.declared.phrase.Phrase.{Phrase}
+use Rattle.frag_tree.specs.declared.phrase.Phrase.TheVariants as phrase
+use Rattle.frag_parse.specs.declared.sign.Sign.{Sign}
+use Rattle.frag_parse.specs.declared.sign.Sign.TheVariants as sign
+use Rattle.frag_parse.specs.Signs.{sign_word}
+use Rattle.frag_tree.specs.Phrases.{words_of, receiver, receiver_mut}
+use Rattle.frag_parse.specs.declared.list.Begins.{Begins}
+use Rattle.frag_parse.specs.declared.list.Begins.TheVariants.{Pub, Impl, NotCloser}
 
 -- Reading gives nothing, or memory ran out.
 abbrev pub Fails : {Y : Type 0} → Stop → Option Y → Type 0
@@ -171,17 +178,20 @@ braced_at begins item_at text = do
   rest ← phrase_at phrase.Closer items.1
   Some (items.0, rest)
 
--- what begins with `pub`
-unfoldable pub begins_pub : List Word → Bool
-begins_pub text = sign_at 0 sign.Pub text
+-- an item stands at the front of a text
+unfoldable pub begins_at : Begins → List Word → Bool
+begins_at Pub text = sign_at 0 sign.Pub text
+begins_at Impl text = sign_at 0 sign.Impl text
+begins_at NotCloser text = not (sign_at 0 sign.Closer text)
 
--- what begins with `impl`
-unfoldable pub begins_impl : List Word → Bool
-begins_impl text = sign_at 0 sign.Impl text
+abbrev pub begins_pub : List Word → Bool
+begins_pub = begins_at Pub
 
--- what begins with anything but the closing brace
-unfoldable pub begins_field : List Word → Bool
-begins_field text = not (sign_at 0 sign.Closer text)
+abbrev pub begins_impl : List Word → Bool
+begins_impl = begins_at Impl
+
+abbrev pub begins_field : List Word → Bool
+begins_field = begins_at NotCloser
 
 -- what is read is followed by fewer words
 abbrev pub Shrinks : {A : Type 0} → (List Word → Found A) → Type 0
@@ -195,7 +205,7 @@ slot_at text = do
   name ← name_at rest
   rest ← phrase_at phrase.OpensPeriph name.1
   block ← name_at rest
-  rest ← phrase_at phrase.BlockThenComma block.1
+  rest ← phrase_at phrase.BlockThenNext block.1
   address ← hexadecimal_at rest
   rest ← phrase_at phrase.ClosesSlot address.1
   Some (record { name = name.0; block = block.0; address = address.0 }, rest)
@@ -229,7 +239,7 @@ unfoldable pub array_at : List Word → Found FieldType
 array_at text = do
   rest ← phrase_at phrase.OpensArray text
   member ← element_at rest
-  rest ← phrase_at phrase.ThenCount member.1
+  rest ← phrase_at phrase.Semicolon member.1
   count ← decimal_at rest
   rest ← phrase_at phrase.ClosesArray count.1
   Some (holds.Array member.0 count.0, rest)
@@ -309,7 +319,8 @@ access_at text = do
   rest ← phrase_at phrase.PubFn text
   name ← name_at rest
   index ← index_at name.1
-  member ← element_at index.1
+  rest ← phrase_at phrase.Reference index.1
+  member ← element_at rest
   rest ← phrase_at phrase.OpensBody member.1
   found ← body_at rest
   Some (record { name = name.0; is_indexed = index.0; element = member.0; body = found.0 }, found.1)
@@ -318,7 +329,10 @@ unfoldable pub head_at : List Word → Found BlockHead
 head_at text = do
   rest ← phrase_at phrase.PubMod text
   name ← name_at rest
-  rest ← phrase_at phrase.StructHead name.1
+  rest ← phrase_at phrase.OpensModule name.1
+  rest ← phrase_at phrase.UsePrelude rest
+  rest ← phrase_at phrase.ReprC rest
+  rest ← phrase_at phrase.OpensStruct rest
   fields ← braced_at begins_field field_reading.read rest
   rest ← phrase_at phrase.BlockImpl fields.1
   accessors ← braced_at begins_pub access_reading.read rest
@@ -357,100 +371,130 @@ marker_at text = do
   rest ← phrase_at phrase.ClosesMarker name.1
   Some (name.0, rest)
 
+-- ---- spots
+
+unfoldable pub at_bit_at : List Word → Found Spot
+at_bit_at text = do
+  rest ← phrase_at phrase.OpensAtBit text
+  offset ← decimal_at rest
+  rest ← phrase_at phrase.ThenNext offset.1
+  step ← decimal_at rest
+  rest ← phrase_at phrase.ThenNext step.1
+  count ← decimal_at rest
+  rest ← phrase_at phrase.ClosesAtBit count.1
+  Some (Indexed offset.0 step.0 count.0, rest)
+
+unfoldable pub place_at : List Word → Found Spot
+place_at text = do
+  place ← decimal_at text
+  Some (Fixed place.0, place.1)
+
+unfoldable pub spot_at : Bool → List Word → Found Spot
+spot_at indexed text = if indexed then at_bit_at text else place_at text
+
 -- ---- readers
 
 -- behind the marker of a reader of a bit
-unfoldable pub bit_form_at : Word → Word → List Word → Found Reader
-bit_form_at name marker text = do
+unfoldable pub bit_form_at : Bool → Word → Word → List Word → Found Reader
+bit_form_at indexed name marker text = do
   rest ← phrase_at phrase.NewBitReader text
-  shift ← decimal_at rest
-  rest ← phrase_at phrase.ThenMask shift.1
+  spot ← spot_at indexed rest
+  rest ← phrase_at phrase.ThenMask spot.1
   mask ← hexadecimal_at rest
   rest ← phrase_at phrase.ClosesBitReader mask.1
-  Some (record { name = name; marker = marker; form = read_form.Bit shift.0 mask.0 }, rest)
+  Some (record { name = name; marker = marker; form = read_form.Bit spot.0 mask.0 }, rest)
 
-unfoldable pub bit_reader_at : List Word → Found Reader
-bit_reader_at text = do
+unfoldable pub bit_reader_at : Bool → List Word → Found Reader
+bit_reader_at indexed text = do
   rest ← phrase_at phrase.PubFn text
   name ← name_at rest
-  rest ← phrase_at phrase.GivesBitReader name.1
+  rest ← phrase_at (receiver indexed) name.1
+  rest ← phrase_at phrase.OfBitReader rest
   marker ← name_at rest
-  bit_form_at name.0 marker.0 marker.1
+  bit_form_at indexed name.0 marker.0 marker.1
 
 -- behind the width of a reader of a number
-unfoldable pub field_form_at : Word → Word → Width → List Word → Found Reader
-field_form_at name marker width text = do
+unfoldable pub field_form_at : Bool → Word → Word → Width → List Word → Found Reader
+field_form_at indexed name marker width text = do
   rest ← phrase_at phrase.NewFieldReader text
-  shift ← decimal_at rest
-  rest ← phrase_at phrase.ThenMask shift.1
+  spot ← spot_at indexed rest
+  rest ← phrase_at phrase.ThenMask spot.1
   mask ← hexadecimal_at rest
   rest ← phrase_at phrase.ThenCast mask.1
   rest ← sign_then (sign.Type width) rest
   rest ← phrase_at phrase.ClosesCall rest
-  Some (record { name = name; marker = marker; form = read_form.Field width shift.0 mask.0 }, rest)
+  Some (record { name = name; marker = marker; form = read_form.Field width spot.0 mask.0 }, rest)
 
-unfoldable pub field_reader_at : List Word → Found Reader
-field_reader_at text = do
+unfoldable pub field_reader_at : Bool → List Word → Found Reader
+field_reader_at indexed text = do
   rest ← phrase_at phrase.PubFn text
   name ← name_at rest
-  rest ← phrase_at phrase.GivesFieldReader name.1
+  rest ← phrase_at (receiver indexed) name.1
+  rest ← phrase_at phrase.OfFieldReader rest
   marker ← name_at rest
   rest ← phrase_at phrase.ThenNext marker.1
   width ← width_at rest
-  field_form_at name.0 marker.0 width.0 width.1
+  field_form_at indexed name.0 marker.0 width.0 width.1
 
-unfoldable pub reader_at : List Word → Found Reader
-reader_at text = if sign_at 8 sign.BitReader text then bit_reader_at text else field_reader_at text
+unfoldable pub typed_reader_at : Bool → List Word → Found Reader
+typed_reader_at indexed text = if sign_at (reader_type indexed) sign.BitReader text then bit_reader_at indexed text else field_reader_at indexed text
+
+unfoldable pub reader_at : Version → List Word → Found Reader
+reader_at version text = if takes_index version && sign_at 6 sign.Comma text then typed_reader_at true text else typed_reader_at false text
 
 -- ---- writers
 
 -- behind the marker of a writer of a number
-unfoldable pub field_place_at : Word → Word → List Word → Found Writer
-field_place_at name marker text = do
+unfoldable pub field_place_at : Bool → Word → Word → List Word → Found Writer
+field_place_at indexed name marker text = do
   rest ← phrase_at phrase.ThenNext text
   width ← width_at rest
   rest ← phrase_at phrase.ThenNext width.1
   bits ← decimal_at rest
   rest ← phrase_at phrase.NewFieldWriter bits.1
-  offset ← decimal_at rest
-  rest ← phrase_at phrase.ClosesCall offset.1
-  Some (record { name = name; marker = marker; form = write_form.Field width.0 bits.0 offset.0 }, rest)
+  spot ← spot_at indexed rest
+  rest ← phrase_at phrase.ClosesCall spot.1
+  Some (record { name = name; marker = marker; form = write_form.Field width.0 bits.0 spot.0 }, rest)
 
-unfoldable pub field_writer_at : List Word → Found Writer
-field_writer_at text = do
+unfoldable pub field_writer_at : Bool → List Word → Found Writer
+field_writer_at indexed text = do
   rest ← phrase_at phrase.PubFn text
   name ← name_at rest
-  rest ← phrase_at phrase.GivesFieldWriter name.1
+  rest ← phrase_at (receiver_mut indexed) name.1
+  rest ← phrase_at phrase.OfFieldWriter rest
   marker ← name_at rest
-  field_place_at name.0 marker.0 marker.1
+  field_place_at indexed name.0 marker.0 marker.1
 
 -- behind the marker of a writer of a bit
-unfoldable pub bit_place_at : Word → BitKind → Word → List Word → Found Writer
-bit_place_at name which marker text = do
+unfoldable pub bit_place_at : Bool → Word → BitKind → Word → List Word → Found Writer
+bit_place_at indexed name which marker text = do
   rest ← phrase_at phrase.ThenBody text
   rest ← sign_then (sign.Kind which) rest
   rest ← phrase_at phrase.NewOnSelf rest
-  offset ← decimal_at rest
-  rest ← phrase_at phrase.ClosesCall offset.1
-  Some (record { name = name; marker = marker; form = write_form.Bit which offset.0 }, rest)
+  spot ← spot_at indexed rest
+  rest ← phrase_at phrase.ClosesCall spot.1
+  Some (record { name = name; marker = marker; form = write_form.Bit which spot.0 }, rest)
 
-unfoldable pub bit_writer_at : List Word → Found Writer
-bit_writer_at text = do
+unfoldable pub bit_writer_at : Bool → List Word → Found Writer
+bit_writer_at indexed text = do
   rest ← phrase_at phrase.PubFn text
   name ← name_at rest
-  rest ← phrase_at phrase.GivesWriter name.1
+  rest ← phrase_at (receiver_mut indexed) name.1
   which ← kind_at rest
   rest ← phrase_at phrase.OfSpec which.1
   marker ← name_at rest
-  bit_place_at name.0 which.0 marker.0 marker.1
+  bit_place_at indexed name.0 which.0 marker.0 marker.1
 
-unfoldable pub writer_at : List Word → Found Writer
-writer_at text = if sign_at 9 sign.FieldWriter text then field_writer_at text else bit_writer_at text
+unfoldable pub typed_writer_at : Bool → List Word → Found Writer
+typed_writer_at indexed text = if sign_at (writer_type indexed) sign.FieldWriter text then field_writer_at indexed text else bit_writer_at indexed text
+
+unfoldable pub writer_at : Version → List Word → Found Writer
+writer_at version text = if takes_index version && sign_at 7 sign.Comma text then typed_writer_at true text else typed_writer_at false text
 
 -- ---- calls for values
 
-unfoldable pub truth_call_at : Phrase → Phrase → List Word → Found TruthCall
-truth_call_at middle end text = do
+unfoldable pub truth_behind_at : Phrase → Phrase → List Word → Found TruthCall
+truth_behind_at middle end text = do
   rest ← phrase_at phrase.PubFn text
   name ← name_at rest
   rest ← phrase_at middle name.1
@@ -458,8 +502,8 @@ truth_call_at middle end text = do
   rest ← phrase_at end value.1
   Some (record { name = name.0; value = value.0 }, rest)
 
-unfoldable pub number_call_at : Phrase → Phrase → List Word → Found NumberCall
-number_call_at middle end text = do
+unfoldable pub number_behind_at : Phrase → Phrase → List Word → Found NumberCall
+number_behind_at middle end text = do
   rest ← phrase_at phrase.PubFn text
   name ← name_at rest
   rest ← phrase_at middle name.1
@@ -467,17 +511,21 @@ number_call_at middle end text = do
   rest ← phrase_at end value.1
   Some (record { name = name.0; value = value.0 }, rest)
 
-unfoldable pub truth_test_at : List Word → Found TruthCall
-truth_test_at text = truth_call_at phrase.TestsBit phrase.ClosesBody text
+unfoldable pub truth_call_at : Bool → List Word → Found TruthCall
+truth_call_at reads text = if reads then truth_behind_at phrase.TestsBit phrase.ClosesBody text else truth_behind_at phrase.WritesBit phrase.ClosesCall text
 
-unfoldable pub truth_write_at : List Word → Found TruthCall
-truth_write_at text = truth_call_at phrase.WritesBit phrase.ClosesCall text
+unfoldable pub number_call_at : Bool → List Word → Found NumberCall
+number_call_at reads text =
+    if reads then number_behind_at phrase.TestsNumber phrase.ClosesBody text else number_behind_at phrase.WritesNumber phrase.ClosesCall text
 
-unfoldable pub number_test_at : List Word → Found NumberCall
-number_test_at text = number_call_at phrase.TestsNumber phrase.ClosesBody text
+-- the calls that test, or those that write
+abbrev pub truth_calls : Bool → Reading TruthCall
+truth_calls true = truth_test
+truth_calls false = truth_write
 
-unfoldable pub number_write_at : List Word → Found NumberCall
-number_write_at text = number_call_at phrase.WritesNumber phrase.ClosesCall text
+abbrev pub number_calls : Bool → Reading NumberCall
+number_calls true = number_test
+number_calls false = number_write
 
 unfoldable pub bit_reading_at : List Word → Found Values
 bit_reading_at text = do
@@ -538,64 +586,80 @@ readable_at text = if impl_at sign.Readable text then (phrase_at phrase.Readable
 unfoldable pub writable_part_at : List Word → Found (Option Writable)
 writable_part_at text = if impl_at sign.Writable text then (writable_at text >>= λ part. Some (Some part.0, part.1)) else Some (None, text)
 
-unfoldable pub readers_at : List Word → Found (List Reader)
-readers_at text = do
+unfoldable pub readers_at : (version : Version) → List Word → Found (List Reader)
+readers_at version text = do
   rest ← phrase_at phrase.ReadersImpl text
-  calls ← braced_at begins_pub reader_reading.read rest
+  calls ← braced_at begins_pub (reader_reading version).read rest
   Some (calls.0, calls.1)
 
-unfoldable pub writers_at : List Word → Found (List Writer)
-writers_at text = do
+unfoldable pub writers_at : (version : Version) → List Word → Found (List Writer)
+writers_at version text = do
   rest ← phrase_at phrase.WritersImpl text
-  calls ← braced_at begins_pub writer_reading.read rest
+  calls ← braced_at begins_pub (writer_reading version).read rest
   Some (calls.0, calls.1)
 
-unfoldable pub readers_part_at : List Word → Found (Option (List Reader))
-readers_part_at text = if impl_at sign.R text then (readers_at text >>= λ part. Some (Some part.0, part.1)) else Some (None, text)
+unfoldable pub readers_part_at : (version : Version) → List Word → Found (Option (List Reader))
+readers_part_at version text = if impl_at sign.R text then ((readers_at version) text >>= λ part. Some (Some part.0, part.1)) else Some (None, text)
 
-unfoldable pub writers_part_at : List Word → Found (Option (List Writer))
-writers_part_at text = if impl_at sign.W text then (writers_at text >>= λ part. Some (Some part.0, part.1)) else Some (None, text)
+unfoldable pub writers_part_at : (version : Version) → List Word → Found (Option (List Writer))
+writers_part_at version text = if impl_at sign.W text then ((writers_at version) text >>= λ part. Some (Some part.0, part.1)) else Some (None, text)
 
 -- behind the type of a register module's word
-unfoldable pub parts_at : Word → Width → List Word → Found RegisterModule
-parts_at name width text = do
+unfoldable pub parts_at : (version : Version) → Word → Width → List Word → Found RegisterModule
+parts_at version name width text = do
   readable ← readable_at text
   writable ← writable_part_at readable.1
   reset ← reset_at writable.1
   markers ← many_at begins_pub marker_reading.read reset.1
-  readers ← readers_part_at markers.1
-  writers ← writers_part_at readers.1
+  readers ← (readers_part_at version) markers.1
+  writers ← (writers_part_at version) readers.1
   blocks ← braced_at begins_impl values_reading.read writers.1
   Some (record { name = name; word = width; readable = readable.0; writable = writable.0; reset = reset.0; markers = markers.0; readers = readers.0; writers = writers.0; values = blocks.0 }, blocks.1)
 
-unfoldable pub register_at : List Word → Found RegisterModule
-register_at text = do
+unfoldable pub register_at : (version : Version) → List Word → Found RegisterModule
+register_at version text = do
   rest ← phrase_at phrase.PubMod text
   name ← name_at rest
-  rest ← phrase_at phrase.RegisterHead name.1
+  rest ← phrase_at phrase.OpensModule name.1
+  rest ← phrase_at phrase.UsePrelude rest
+  rest ← phrase_at phrase.SpecStruct rest
+  rest ← phrase_at phrase.OpensSpec rest
   width ← width_at rest
-  rest ← phrase_at phrase.ClosesWord width.1
-  parts_at name.0 width.0 rest
+  rest ← phrase_at phrase.ClosesSpec width.1
+  (parts_at version) name.0 width.0 rest
 
 -- ---- modules
 
-unfoldable pub block_at : List Word → Found BlockTree
-block_at text = do
+unfoldable pub block_at : (version : Version) → List Word → Found BlockTree
+block_at version text = do
   head ← head_at text
-  inside ← modules_reading.read head.1
+  inside ← (modules_reading version).read head.1
   Some (record { head = head.0; inside = inside.0 }, inside.1)
 
-unfoldable pub module_at : List Word → Found ModuleTree
-module_at text = if sign_at 11 sign.Hash text then (block_at text >>= λ unit. Some (one_block unit.0, unit.1)) else (register_at text >>= λ unit. Some (one_register unit.0, unit.1))
+unfoldable pub module_at : (version : Version) → List Word → Found ModuleTree
+module_at version text = if sign_at 11 sign.Hash text then ((block_at version) text >>= λ unit. Some (one_block unit.0, unit.1)) else ((register_at version) text >>= λ unit. Some (one_register unit.0, unit.1))
 
 -- the blocks up to the end of the text
-unfoldable pub blocks_at : List Word → Found (List BlockTree)
-blocks_at text = read_blocks (length text) text >>= λ units. Some (units, [])
+unfoldable pub blocks_at : (version : Version) → List Word → Found (List BlockTree)
+blocks_at version text = (read_blocks version) (length text) text >>= λ units. Some (units, [])
+
+-- ---- the whole
+
+unfoldable pub version_at : List Word → Found Version
+version_at text = if sign_at 0 sign.Pub text then (phrase_at phrase.VersionTwo text >>= λ rest. Some (Two, rest)) else Some (One, text)
+
+-- what stands before the block modules
+unfoldable pub opening_at : List Word → Found (Version × List Slot)
+opening_at text = do
+  version ← version_at text
+  rest ← phrase_at phrase.UsePrelude version.1
+  rest ← phrase_at phrase.OpensPeripherals rest
+  slots ← braced_at begins_pub slot_reading.read rest
+  Some ((version.0, slots.0), slots.1)
 
 -- the crate that a whole text spells
 unfoldable pub crate_at : List Word → Found CrateTree
 crate_at text = do
-  rest ← phrase_at phrase.CrateHead text
-  slots ← braced_at begins_pub slot_reading.read rest
-  blocks ← blocks_at slots.1
-  Some (record { slots = slots.0; blocks = blocks.0 }, blocks.1)
+  opening ← opening_at text
+  blocks ← blocks_at opening.0.0 opening.1
+  Some (record { version = opening.0.0; slots = opening.0.1; blocks = blocks.0 }, blocks.1)

@@ -1,8 +1,9 @@
 -- No item of a list is without words.
-use Rattle.std.proofs.Common.{◌≤◌, arith, length, length-append, ap, drop}
+use Rattle.std.proofs.Common.{◌≤◌, arith, length, length-append, ap, drop, Bool, true, false}
 use Rattle.std.specs.Prelude.{codes}
 use Rattle.frag_words.specs.Readings.{IsExact, Reading}
 use Rattle.frag_words.specs.Words.{Word, words_behind}
+use Rattle.frag_tree.specs.declared.krate.Version.{Version}
 use Rattle.frag_tree.specs.Productions.{access_reading, field_reading, slot_reading}
 use Rattle.frag_tree.specs.RegisterProductions.{marker_reading, number_test, number_write, reader_reading, truth_test, truth_write, values_reading, writer_reading}
 use Rattle.frag_tree.specs.declared.access.Access.{Access}
@@ -18,7 +19,7 @@ use Rattle.frag_tree.proofs.Braced.{one_word}
 use Rattle.frag_tree.proofs.Productions.{access_exact, field_exact, slot_exact}
 use Rattle.frag_tree.proofs.RegisterProductions.{marker_exact, number_test_exact, number_write_exact, reader_exact, truth_test_exact, truth_write_exact, writer_exact}
 use Rattle.frag_tree.proofs.ValuesProductions.{values_exact}
-use Rattle.frag_parse.specs.Reading.{Shrinks}
+use Rattle.frag_parse.specs.Reading.{Shrinks, number_calls, truth_calls}
 
 pub shrinks_of : {A : Type 0} (reading : Reading A) → IsExact A reading → ((tree : A) → 1 ≤ length (reading.words tree)) → Shrinks reading.read
 shrinks_of reading exact some text tree rest e =
@@ -53,47 +54,55 @@ marker_some tree = one_word (codes "pub") (drop 1 (marker_reading.words tree))
 pub marker_shrinks : Shrinks marker_reading.read
 marker_shrinks = shrinks_of marker_reading marker_exact marker_some
 
-reader_some : (tree : Reader) → 1 ≤ length (reader_reading.words tree)
+reader_some : (version : Version) → (tree : Reader) → 1 ≤ length ((reader_reading version).words tree)
 unfolding reader_reading words_behind
-reader_some tree = one_word (codes "pub") (drop 1 (reader_reading.words tree))
+reader_some version tree = one_word (codes "pub") (drop 1 ((reader_reading version).words tree))
 
-pub reader_shrinks : Shrinks reader_reading.read
-reader_shrinks = shrinks_of reader_reading reader_exact reader_some
+pub reader_shrinks : (version : Version) → Shrinks (reader_reading version).read
+reader_shrinks version = shrinks_of (reader_reading version) (reader_exact version) (reader_some version)
 
-writer_some : (tree : Writer) → 1 ≤ length (writer_reading.words tree)
+writer_some : (version : Version) → (tree : Writer) → 1 ≤ length ((writer_reading version).words tree)
 unfolding writer_reading words_behind
-writer_some tree = one_word (codes "pub") (drop 1 (writer_reading.words tree))
+writer_some version tree = one_word (codes "pub") (drop 1 ((writer_reading version).words tree))
 
-pub writer_shrinks : Shrinks writer_reading.read
-writer_shrinks = shrinks_of writer_reading writer_exact writer_some
+pub writer_shrinks : (version : Version) → Shrinks (writer_reading version).read
+writer_shrinks version = shrinks_of (writer_reading version) (writer_exact version) (writer_some version)
 
 truth_test_some : (tree : TruthCall) → 1 ≤ length (truth_test.words tree)
 unfolding truth_test words_behind
 truth_test_some tree = one_word (codes "pub") (drop 1 (truth_test.words tree))
 
-pub truth_test_shrinks : Shrinks truth_test.read
+truth_test_shrinks : Shrinks truth_test.read
 truth_test_shrinks = shrinks_of truth_test truth_test_exact truth_test_some
 
 truth_write_some : (tree : TruthCall) → 1 ≤ length (truth_write.words tree)
 unfolding truth_write words_behind
 truth_write_some tree = one_word (codes "pub") (drop 1 (truth_write.words tree))
 
-pub truth_write_shrinks : Shrinks truth_write.read
+truth_write_shrinks : Shrinks truth_write.read
 truth_write_shrinks = shrinks_of truth_write truth_write_exact truth_write_some
 
 number_test_some : (tree : NumberCall) → 1 ≤ length (number_test.words tree)
 unfolding number_test words_behind
 number_test_some tree = one_word (codes "pub") (drop 1 (number_test.words tree))
 
-pub number_test_shrinks : Shrinks number_test.read
+number_test_shrinks : Shrinks number_test.read
 number_test_shrinks = shrinks_of number_test number_test_exact number_test_some
 
 number_write_some : (tree : NumberCall) → 1 ≤ length (number_write.words tree)
 unfolding number_write words_behind
 number_write_some tree = one_word (codes "pub") (drop 1 (number_write.words tree))
 
-pub number_write_shrinks : Shrinks number_write.read
+number_write_shrinks : Shrinks number_write.read
 number_write_shrinks = shrinks_of number_write number_write_exact number_write_some
+
+pub truth_calls_shrink : (reads : Bool) → Shrinks (truth_calls reads).read
+truth_calls_shrink true = truth_test_shrinks
+truth_calls_shrink false = truth_write_shrinks
+
+pub number_calls_shrink : (reads : Bool) → Shrinks (number_calls reads).read
+number_calls_shrink true = number_test_shrinks
+number_calls_shrink false = number_write_shrinks
 
 values_some : (tree : Values) → 1 ≤ length (values_reading.words tree)
 unfolding values_reading words_behind

@@ -5,9 +5,9 @@ ghost use Rattle.frag_parse.specs.Reading.{Gives, access_at, body_at, far_body_a
 use crate::block::element;
 use crate::fault::Stop;
 use crate::numeral::{decimal, hexadecimal};
-use crate::phrase::{Phrase, Sign};
+use crate::sign::Sign;
 use crate::token::{expect, identifier, is_at};
-use frag_tree::{Access, Body};
+use frag_tree::{Access, Body, Phrase};
 use std::alloc::Global;
 
 /// `&self.FIELD }`
@@ -101,7 +101,7 @@ fn body(alloc: Global, text: &[u8]) -> Result<(Body, &[u8]), Stop>
     }
 }
 
-/// `(&self, n: usize) -> &`
+/// `(&self, n: usize) ->`
 #[tactic(auto, unfolding(crate::specs::Reading::indexed_at))]
 fn indexed(text: &[u8]) -> Result<(bool, &[u8]), Stop>
     ensures { Gives (λ found. (found.0, words_in found.1.now)) result (indexed_at (words_in text.now)) }
@@ -110,7 +110,7 @@ fn indexed(text: &[u8]) -> Result<(bool, &[u8]), Stop>
     Ok((true, rest))
 }
 
-/// `(&self) -> &`
+/// `(&self) ->`
 #[tactic(auto, unfolding(crate::specs::Reading::plain_at))]
 fn plain(text: &[u8]) -> Result<(bool, &[u8]), Stop>
     ensures { Gives (λ found. (found.0, words_in found.1.now)) result (plain_at (words_in text.now)) }
@@ -139,6 +139,7 @@ pub(crate) fn access(alloc: Global, text: &[u8]) -> Result<(Access, &[u8]), Stop
     let rest = expect(text, Phrase::PubFn)?;
     let (name, rest) = identifier(alloc, rest)?;
     let (is_indexed, rest) = index(rest)?;
+    let rest = expect(rest, Phrase::Reference)?;
     let (element, rest) = element(alloc, rest)?;
     let rest = expect(rest, Phrase::OpensBody)?;
     let (body, rest) = body(alloc, rest)?;

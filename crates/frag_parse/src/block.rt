@@ -4,9 +4,9 @@ ghost use Rattle.frag_parse.specs.Reading.{Gives, array_at, block_element_at, el
 
 use crate::fault::Stop;
 use crate::numeral::decimal;
-use crate::phrase::{Phrase, Sign};
+use crate::sign::Sign;
 use crate::token::{expect, identifier, is_at};
-use frag_tree::{Element, FieldType, StructField};
+use frag_tree::{Element, FieldType, Phrase, StructField};
 use std::alloc::Global;
 
 /// `Reg<MODULE::Spec>`
@@ -60,7 +60,7 @@ fn array(alloc: Global, text: &[u8]) -> Result<(FieldType, &[u8]), Stop>
 {
     let rest = expect(text, Phrase::OpensArray)?;
     let (element, rest) = element(alloc, rest)?;
-    let rest = expect(rest, Phrase::ThenCount)?;
+    let rest = expect(rest, Phrase::Semicolon)?;
     let (count, rest) = decimal(alloc, rest)?;
     let rest = expect(rest, Phrase::ClosesArray)?;
     Ok((FieldType::Array { element, count }, rest))

@@ -4,10 +4,10 @@ ghost use Rattle.frag_parse.specs.Reading.{Gives, constant_at, marker_at, readab
 
 use crate::fault::Stop;
 use crate::numeral::hexadecimal;
-use crate::phrase::{Phrase, Sign};
+use crate::sign::Sign;
 use crate::token::{expect, identifier, is_impl};
 use crate::word::width;
-use frag_tree::{Constant, Identifier, Writable};
+use frag_tree::{Constant, Identifier, Phrase, Writable};
 use std::alloc::Global;
 
 /// `NAME: TYPE = VALUE;`, where the text of the phrase ends with the name.

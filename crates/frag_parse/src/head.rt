@@ -4,12 +4,11 @@ ghost use Rattle.frag_parse.specs.Depth.{head_told};
 ghost use Rattle.frag_parse.specs.Reading.{Gives, head_at};
 
 use crate::fault::Stop;
-use crate::list::braced;
-use crate::phrase::Phrase;
+use crate::list::{Begins, braced};
 use crate::production::{Accessors, Fields};
 use crate::starts::Starts;
 use crate::token::{expect, identifier};
-use frag_tree::{Access, Identifier, StructField};
+use frag_tree::{Access, Identifier, Phrase, StructField};
 use pac_base::Seq;
 use std::alloc::Global;
 
@@ -35,10 +34,13 @@ pub(crate) fn block_head<'a>(
 {
     let rest = expect(text, Phrase::PubMod)?;
     let (name, rest) = identifier(alloc, rest)?;
-    let rest = expect(rest, Phrase::StructHead)?;
-    let (fields, rest) = braced::<StructField, Fields>(alloc, starts, rest)?;
+    let rest = expect(rest, Phrase::OpensModule)?;
+    let rest = expect(rest, Phrase::UsePrelude)?;
+    let rest = expect(rest, Phrase::ReprC)?;
+    let rest = expect(rest, Phrase::OpensStruct)?;
+    let (fields, rest) = braced(alloc, starts, &Fields, Begins::NotCloser, rest)?;
     let rest = expect(rest, Phrase::BlockImpl)?;
-    let (accessors, rest) = braced::<Access, Accessors>(alloc, starts, rest)?;
+    let (accessors, rest) = braced(alloc, starts, &Accessors, Begins::Pub, rest)?;
     let head = Head {
         name,
         fields,

@@ -8,27 +8,28 @@ ghost use Rattle.frag_parse.specs.Reading.{block_at, module_at};
 
 use crate::fault::Refusal;
 use crate::head::block_head;
-use crate::phrase::{Phrase, Sign};
 use crate::register::register;
+use crate::sign::Sign;
 use crate::starts::Starts;
 use crate::token::{expect, is_at, left_at};
-use frag_tree::{Block, Module};
+use frag_tree::{Block, Module, Phrase, Version};
 use std::alloc::Global;
 
 /// The modules of one parent, which nest at most `depth` deep, and what follows the brace behind them.
 #[cycle(modules)]
 fn modules<'a>(
     alloc: Global,
+    version: Version,
     starts: &mut Starts,
     text: &'a [u8],
     depth: usize,
 ) -> Result<(Vec<Module>, &'a [u8]), Refusal>
-    ensures { Fits (λ found. (in_line (map module_tree found.0.items), words_in found.1.now)) (nests_within depth) result (modules_reading.read (words_in text.now)) }
+    ensures { Fits (λ found. (in_line (map module_tree found.0.items), words_in found.1.now)) (nests_within depth) result ((modules_reading version).read (words_in text.now)) }
 {
     let mut modules = Vec::new(alloc);
     let mut rest = text;
     while is_at(rest, 0, Sign::Pub) {
-        let (module, after) = module(alloc, starts, rest, depth)?;
+        let (module, after) = module(alloc, version, starts, rest, depth)?;
         modules.push(module)?;
         rest = after;
     }
@@ -40,11 +41,12 @@ fn modules<'a>(
 #[cycle(modules)]
 fn module<'a>(
     alloc: Global,
+    version: Version,
     starts: &mut Starts,
     text: &'a [u8],
     depth: usize,
 ) -> Result<(Module, &'a [u8]), Refusal>
-    ensures { Fits (λ found. (module_tree found.0, words_in found.1.now)) (module_within depth) result (module_at (words_in text.now)) }
+    ensures { Fits (λ found. (module_tree found.0, words_in found.1.now)) (module_within depth) result (module_at version (words_in text.now)) }
 {
     let Some(inside) = depth.checked_sub(1) else {
         return Err(Refusal::TooDeep {
@@ -53,10 +55,10 @@ fn module<'a>(
     };
     starts.note(text)?;
     if is_at(text, 11, Sign::Hash) {
-        let (block, rest) = block(alloc, starts, text, inside)?;
+        let (block, rest) = block(alloc, version, starts, text, inside)?;
         return Ok((Module::Block(block), rest));
     }
-    let (unit, rest) = register(alloc, starts, text)?;
+    let (unit, rest) = register(alloc, version, starts, text)?;
     Ok((Module::Register(unit), rest))
 }
 
@@ -64,14 +66,15 @@ fn module<'a>(
 #[cycle(modules)]
 pub(crate) fn block<'a>(
     alloc: Global,
+    version: Version,
     starts: &mut Starts,
     text: &'a [u8],
     inside: usize,
 ) -> Result<(Block, &'a [u8]), Refusal>
-    ensures { Fits (λ found. (block_tree found.0, words_in found.1.now)) (λ unit. nests_within inside unit.inside) result (block_at (words_in text.now)) }
+    ensures { Fits (λ found. (block_tree found.0, words_in found.1.now)) (λ unit. nests_within inside unit.inside) result (block_at version (words_in text.now)) }
 {
     let (head, rest) = block_head(alloc, starts, text)?;
-    let (modules, rest) = modules(alloc, starts, rest, inside)?;
+    let (modules, rest) = modules(alloc, version, starts, rest, inside)?;
     let block = Block {
         name: head.name,
         fields: head.fields,

@@ -1,74 +1,81 @@
 ghost use Rattle.std.specs.Prelude.{◌≡◌};
 ghost use Rattle.frag_words.specs.Words.{words_in};
 ghost use Rattle.frag_tree.specs.Productions.{access_reading, field_reading, slot_reading};
-ghost use Rattle.frag_tree.specs.RegisterProductions.{marker_reading, number_test, number_write, reader_reading, truth_test, truth_write, values_reading, writer_reading};
-ghost use Rattle.frag_parse.specs.Reading.{begins_field, begins_impl, begins_pub};
-ghost use Rattle.frag_parse.specs.Shrinking.{access_shrinks, field_shrinks, marker_shrinks, number_test_shrinks, number_write_shrinks, reader_shrinks, slot_shrinks, truth_test_shrinks, truth_write_shrinks, values_shrinks, writer_shrinks};
+ghost use Rattle.frag_tree.specs.RegisterProductions.{marker_reading, reader_reading, values_reading, writer_reading};
+ghost use Rattle.frag_parse.specs.Reading.{number_calls, truth_calls};
+ghost use Rattle.frag_parse.specs.Shrinking.{access_shrinks, field_shrinks, marker_shrinks, number_calls_shrink, reader_shrinks, slot_shrinks, truth_calls_shrink, values_shrinks, writer_shrinks};
 
 use crate::access::access;
 use crate::block::field;
 use crate::constant::marker;
 use crate::fault::Stop;
 use crate::list::Production;
-use crate::phrase::{Phrase, Sign};
 use crate::reader::reader;
 use crate::slot::slot;
 use crate::starts::Starts;
-use crate::token::is_at;
 use crate::value_call::{number_call, truth_call};
 use crate::values::values;
 use crate::writer::writer;
 use frag_tree::{
-    Access, Identifier, NumberCall, Reader, Slot, StructField, TruthCall, Values, Writer,
+    Access, Identifier, NumberCall, Reader, Slot, StructField, TruthCall, Values, Version, Writer,
 };
 use std::alloc::Global;
 
 /// The slots of a crate.
+#[derive(Clone, Copy)]
 pub(crate) struct Slots;
 
 /// The fields of a struct.
+#[derive(Clone, Copy)]
 pub(crate) struct Fields;
 
 /// The accessors of a block.
+#[derive(Clone, Copy)]
 pub(crate) struct Accessors;
 
 /// The markers of a register module.
+#[derive(Clone, Copy)]
 pub(crate) struct Markers;
 
 /// The calls that read fields.
-pub(crate) struct Readers;
+#[derive(Clone, Copy)]
+pub(crate) struct Readers {
+    /// The form of the text.
+    pub(crate) version: Version,
+}
 
 /// The calls that write fields.
-pub(crate) struct Writers;
+#[derive(Clone, Copy)]
+pub(crate) struct Writers {
+    /// The form of the text.
+    pub(crate) version: Version,
+}
 
-/// The calls that test a bit.
-pub(crate) struct TruthTests;
+/// The calls that test a bit, or those that write one.
+#[derive(Clone, Copy)]
+pub(crate) struct TruthCalls {
+    /// Whether they test.
+    pub(crate) reads: bool,
+}
 
-/// The calls that write a bit.
-pub(crate) struct TruthWrites;
-
-/// The calls that test a number.
-pub(crate) struct NumberTests;
-
-/// The calls that write a number.
-pub(crate) struct NumberWrites;
+/// The calls that test a number, or those that write one.
+#[derive(Clone, Copy)]
+pub(crate) struct NumberCalls {
+    /// Whether they test.
+    pub(crate) reads: bool,
+}
 
 /// The blocks of calls that stand for values.
+#[derive(Clone, Copy)]
 pub(crate) struct ValueBlocks;
 
 impl Production<Slot> for Slots {
-    ghost begins_at = { begins_pub };
+    ghost reading = { λ _. slot_reading };
 
-    ghost reading = { slot_reading };
-
-    ghost shrinks = { slot_shrinks };
-
-    #[tactic(auto, unfolding(crate::specs::Reading::begins_pub))]
-    fn begins(text: &[u8]) -> bool {
-        is_at(text, 0, Sign::Pub)
-    }
+    ghost shrinks = { λ _. slot_shrinks };
 
     fn read<'a>(
+        &self,
         alloc: Global,
         _starts: &mut Starts,
         text: &'a [u8],
@@ -78,18 +85,12 @@ impl Production<Slot> for Slots {
 }
 
 impl Production<StructField> for Fields {
-    ghost begins_at = { begins_field };
+    ghost reading = { λ _. field_reading };
 
-    ghost reading = { field_reading };
-
-    ghost shrinks = { field_shrinks };
-
-    #[tactic(auto, unfolding(crate::specs::Reading::begins_field))]
-    fn begins(text: &[u8]) -> bool {
-        !is_at(text, 0, Sign::Closer)
-    }
+    ghost shrinks = { λ _. field_shrinks };
 
     fn read<'a>(
+        &self,
         alloc: Global,
         _starts: &mut Starts,
         text: &'a [u8],
@@ -99,18 +100,12 @@ impl Production<StructField> for Fields {
 }
 
 impl Production<Access> for Accessors {
-    ghost begins_at = { begins_pub };
+    ghost reading = { λ _. access_reading };
 
-    ghost reading = { access_reading };
-
-    ghost shrinks = { access_shrinks };
-
-    #[tactic(auto, unfolding(crate::specs::Reading::begins_pub))]
-    fn begins(text: &[u8]) -> bool {
-        is_at(text, 0, Sign::Pub)
-    }
+    ghost shrinks = { λ _. access_shrinks };
 
     fn read<'a>(
+        &self,
         alloc: Global,
         _starts: &mut Starts,
         text: &'a [u8],
@@ -120,18 +115,12 @@ impl Production<Access> for Accessors {
 }
 
 impl Production<Identifier> for Markers {
-    ghost begins_at = { begins_pub };
+    ghost reading = { λ _. marker_reading };
 
-    ghost reading = { marker_reading };
-
-    ghost shrinks = { marker_shrinks };
-
-    #[tactic(auto, unfolding(crate::specs::Reading::begins_pub))]
-    fn begins(text: &[u8]) -> bool {
-        is_at(text, 0, Sign::Pub)
-    }
+    ghost shrinks = { λ _. marker_shrinks };
 
     fn read<'a>(
+        &self,
         alloc: Global,
         _starts: &mut Starts,
         text: &'a [u8],
@@ -141,144 +130,72 @@ impl Production<Identifier> for Markers {
 }
 
 impl Production<Reader> for Readers {
-    ghost begins_at = { begins_pub };
+    ghost reading = { λ production. reader_reading production.version };
 
-    ghost reading = { reader_reading };
-
-    ghost shrinks = { reader_shrinks };
-
-    #[tactic(auto, unfolding(crate::specs::Reading::begins_pub))]
-    fn begins(text: &[u8]) -> bool {
-        is_at(text, 0, Sign::Pub)
-    }
+    ghost shrinks = { λ production. reader_shrinks production.version };
 
     fn read<'a>(
+        &self,
         alloc: Global,
         _starts: &mut Starts,
         text: &'a [u8],
     ) -> Result<(Reader, &'a [u8]), Stop> {
-        reader(alloc, text)
+        reader(alloc, self.version, text)
     }
 }
 
 impl Production<Writer> for Writers {
-    ghost begins_at = { begins_pub };
+    ghost reading = { λ production. writer_reading production.version };
 
-    ghost reading = { writer_reading };
-
-    ghost shrinks = { writer_shrinks };
-
-    #[tactic(auto, unfolding(crate::specs::Reading::begins_pub))]
-    fn begins(text: &[u8]) -> bool {
-        is_at(text, 0, Sign::Pub)
-    }
+    ghost shrinks = { λ production. writer_shrinks production.version };
 
     fn read<'a>(
+        &self,
         alloc: Global,
         _starts: &mut Starts,
         text: &'a [u8],
     ) -> Result<(Writer, &'a [u8]), Stop> {
-        writer(alloc, text)
+        writer(alloc, self.version, text)
     }
 }
 
-impl Production<TruthCall> for TruthTests {
-    ghost begins_at = { begins_pub };
+impl Production<TruthCall> for TruthCalls {
+    ghost reading = { λ production. truth_calls production.reads };
 
-    ghost reading = { truth_test };
-
-    ghost shrinks = { truth_test_shrinks };
-
-    #[tactic(auto, unfolding(crate::specs::Reading::begins_pub))]
-    fn begins(text: &[u8]) -> bool {
-        is_at(text, 0, Sign::Pub)
-    }
+    ghost shrinks = { λ production. truth_calls_shrink production.reads };
 
     fn read<'a>(
+        &self,
         alloc: Global,
         _starts: &mut Starts,
         text: &'a [u8],
     ) -> Result<(TruthCall, &'a [u8]), Stop> {
-        truth_call(alloc, Phrase::TestsBit, Phrase::ClosesBody, text)
+        truth_call(alloc, self.reads, text)
     }
 }
 
-impl Production<TruthCall> for TruthWrites {
-    ghost begins_at = { begins_pub };
+impl Production<NumberCall> for NumberCalls {
+    ghost reading = { λ production. number_calls production.reads };
 
-    ghost reading = { truth_write };
-
-    ghost shrinks = { truth_write_shrinks };
-
-    #[tactic(auto, unfolding(crate::specs::Reading::begins_pub))]
-    fn begins(text: &[u8]) -> bool {
-        is_at(text, 0, Sign::Pub)
-    }
+    ghost shrinks = { λ production. number_calls_shrink production.reads };
 
     fn read<'a>(
-        alloc: Global,
-        _starts: &mut Starts,
-        text: &'a [u8],
-    ) -> Result<(TruthCall, &'a [u8]), Stop> {
-        truth_call(alloc, Phrase::WritesBit, Phrase::ClosesCall, text)
-    }
-}
-
-impl Production<NumberCall> for NumberTests {
-    ghost begins_at = { begins_pub };
-
-    ghost reading = { number_test };
-
-    ghost shrinks = { number_test_shrinks };
-
-    #[tactic(auto, unfolding(crate::specs::Reading::begins_pub))]
-    fn begins(text: &[u8]) -> bool {
-        is_at(text, 0, Sign::Pub)
-    }
-
-    fn read<'a>(
+        &self,
         alloc: Global,
         _starts: &mut Starts,
         text: &'a [u8],
     ) -> Result<(NumberCall, &'a [u8]), Stop> {
-        number_call(alloc, Phrase::TestsNumber, Phrase::ClosesBody, text)
-    }
-}
-
-impl Production<NumberCall> for NumberWrites {
-    ghost begins_at = { begins_pub };
-
-    ghost reading = { number_write };
-
-    ghost shrinks = { number_write_shrinks };
-
-    #[tactic(auto, unfolding(crate::specs::Reading::begins_pub))]
-    fn begins(text: &[u8]) -> bool {
-        is_at(text, 0, Sign::Pub)
-    }
-
-    fn read<'a>(
-        alloc: Global,
-        _starts: &mut Starts,
-        text: &'a [u8],
-    ) -> Result<(NumberCall, &'a [u8]), Stop> {
-        number_call(alloc, Phrase::WritesNumber, Phrase::ClosesCall, text)
+        number_call(alloc, self.reads, text)
     }
 }
 
 impl Production<Values> for ValueBlocks {
-    ghost begins_at = { begins_impl };
+    ghost reading = { λ _. values_reading };
 
-    ghost reading = { values_reading };
-
-    ghost shrinks = { values_shrinks };
-
-    #[tactic(auto, unfolding(crate::specs::Reading::begins_impl))]
-    fn begins(text: &[u8]) -> bool {
-        is_at(text, 0, Sign::Impl)
-    }
+    ghost shrinks = { λ _. values_shrinks };
 
     fn read<'a>(
+        &self,
         alloc: Global,
         starts: &mut Starts,
         text: &'a [u8],

@@ -4,13 +4,13 @@ ghost use Rattle.frag_parse.specs.Reading.{Gives, parts_at, readers_at, readers_
 
 use crate::constant::{readable, reset, writable_part};
 use crate::fault::Stop;
-use crate::list::{braced, many};
-use crate::phrase::{Phrase, Sign};
+use crate::list::{Begins, braced, many};
 use crate::production::{Markers, Readers, ValueBlocks, Writers};
+use crate::sign::Sign;
 use crate::starts::Starts;
 use crate::token::{expect, identifier, is_impl};
 use crate::word::width;
-use frag_tree::{Identifier, Reader, RegisterModule, Values, Writer};
+use frag_tree::{Identifier, Phrase, Reader, RegisterModule, Version, Writer};
 use pac_base::{Seq, Width};
 use std::alloc::Global;
 
@@ -18,13 +18,14 @@ use std::alloc::Global;
 #[tactic(auto, unfolding(crate::specs::Reading::readers_at))]
 fn readers<'a>(
     alloc: Global,
+    version: Version,
     starts: &mut Starts,
     text: &'a [u8],
 ) -> Result<(Seq<Reader>, &'a [u8]), Stop>
-    ensures { Gives (λ found. (found.0, words_in found.1.now)) result (readers_at (words_in text.now)) }
+    ensures { Gives (λ found. (found.0, words_in found.1.now)) result (readers_at version (words_in text.now)) }
 {
     let rest = expect(text, Phrase::ReadersImpl)?;
-    let (calls, rest) = braced::<Reader, Readers>(alloc, starts, rest)?;
+    let (calls, rest) = braced(alloc, starts, &Readers { version }, Begins::Pub, rest)?;
     Ok((calls, rest))
 }
 
@@ -32,13 +33,14 @@ fn readers<'a>(
 #[tactic(auto, unfolding(crate::specs::Reading::writers_at))]
 fn writers<'a>(
     alloc: Global,
+    version: Version,
     starts: &mut Starts,
     text: &'a [u8],
 ) -> Result<(Seq<Writer>, &'a [u8]), Stop>
-    ensures { Gives (λ found. (found.0, words_in found.1.now)) result (writers_at (words_in text.now)) }
+    ensures { Gives (λ found. (found.0, words_in found.1.now)) result (writers_at version (words_in text.now)) }
 {
     let rest = expect(text, Phrase::WritersImpl)?;
-    let (calls, rest) = braced::<Writer, Writers>(alloc, starts, rest)?;
+    let (calls, rest) = braced(alloc, starts, &Writers { version }, Begins::Pub, rest)?;
     Ok((calls, rest))
 }
 
@@ -46,13 +48,14 @@ fn writers<'a>(
 #[tactic(auto, unfolding(crate::specs::Reading::readers_part_at))]
 fn readers_part<'a>(
     alloc: Global,
+    version: Version,
     starts: &mut Starts,
     text: &'a [u8],
 ) -> Result<(Option<Seq<Reader>>, &'a [u8]), Stop>
-    ensures { Gives (λ found. (found.0, words_in found.1.now)) result (readers_part_at (words_in text.now)) }
+    ensures { Gives (λ found. (found.0, words_in found.1.now)) result (readers_part_at version (words_in text.now)) }
 {
     if is_impl(text, Sign::R) {
-        let (readers, rest) = readers(alloc, starts, text)?;
+        let (readers, rest) = readers(alloc, version, starts, text)?;
         return Ok((Some(readers), rest));
     }
     Ok((None, text))
@@ -62,13 +65,14 @@ fn readers_part<'a>(
 #[tactic(auto, unfolding(crate::specs::Reading::writers_part_at))]
 fn writers_part<'a>(
     alloc: Global,
+    version: Version,
     starts: &mut Starts,
     text: &'a [u8],
 ) -> Result<(Option<Seq<Writer>>, &'a [u8]), Stop>
-    ensures { Gives (λ found. (found.0, words_in found.1.now)) result (writers_part_at (words_in text.now)) }
+    ensures { Gives (λ found. (found.0, words_in found.1.now)) result (writers_part_at version (words_in text.now)) }
 {
     if is_impl(text, Sign::W) {
-        let (writers, rest) = writers(alloc, starts, text)?;
+        let (writers, rest) = writers(alloc, version, starts, text)?;
         return Ok((Some(writers), rest));
     }
     Ok((None, text))
@@ -78,20 +82,21 @@ fn writers_part<'a>(
 #[tactic(auto, unfolding(crate::specs::Reading::parts_at))]
 fn parts<'a>(
     alloc: Global,
+    version: Version,
     starts: &mut Starts,
     name: Identifier,
     word: Width,
     text: &'a [u8],
 ) -> Result<(RegisterModule, &'a [u8]), Stop>
-    ensures { Gives (λ found. (found.0, words_in found.1.now)) result (parts_at name word (words_in text.now)) }
+    ensures { Gives (λ found. (found.0, words_in found.1.now)) result (parts_at version name word (words_in text.now)) }
 {
     let (readable, rest) = readable(text)?;
     let (writable, rest) = writable_part(alloc, rest)?;
     let (reset, rest) = reset(alloc, rest)?;
-    let (markers, rest) = many::<Identifier, Markers>(alloc, starts, rest)?;
-    let (readers, rest) = readers_part(alloc, starts, rest)?;
-    let (writers, rest) = writers_part(alloc, starts, rest)?;
-    let (values, rest) = braced::<Values, ValueBlocks>(alloc, starts, rest)?;
+    let (markers, rest) = many(alloc, starts, &Markers, Begins::Pub, rest)?;
+    let (readers, rest) = readers_part(alloc, version, starts, rest)?;
+    let (writers, rest) = writers_part(alloc, version, starts, rest)?;
+    let (values, rest) = braced(alloc, starts, &ValueBlocks, Begins::Impl, rest)?;
     let unit = RegisterModule {
         name,
         word,
@@ -110,15 +115,19 @@ fn parts<'a>(
 #[tactic(auto, unfolding(crate::specs::Reading::register_at))]
 pub(crate) fn register<'a>(
     alloc: Global,
+    version: Version,
     starts: &mut Starts,
     text: &'a [u8],
 ) -> Result<(RegisterModule, &'a [u8]), Stop>
-    ensures { Gives (λ found. (found.0, words_in found.1.now)) result (register_at (words_in text.now)) }
+    ensures { Gives (λ found. (found.0, words_in found.1.now)) result (register_at version (words_in text.now)) }
 {
     let rest = expect(text, Phrase::PubMod)?;
     let (name, rest) = identifier(alloc, rest)?;
-    let rest = expect(rest, Phrase::RegisterHead)?;
+    let rest = expect(rest, Phrase::OpensModule)?;
+    let rest = expect(rest, Phrase::UsePrelude)?;
+    let rest = expect(rest, Phrase::SpecStruct)?;
+    let rest = expect(rest, Phrase::OpensSpec)?;
     let (word, rest) = width(rest)?;
-    let rest = expect(rest, Phrase::ClosesWord)?;
-    parts(alloc, starts, name, word, rest)
+    let rest = expect(rest, Phrase::ClosesSpec)?;
+    parts(alloc, version, starts, name, word, rest)
 }

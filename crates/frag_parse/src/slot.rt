@@ -4,9 +4,8 @@ ghost use Rattle.frag_parse.specs.Reading.{Gives, slot_at};
 
 use crate::fault::Stop;
 use crate::numeral::hexadecimal;
-use crate::phrase::Phrase;
 use crate::token::{expect, identifier};
-use frag_tree::Slot;
+use frag_tree::{Phrase, Slot};
 use std::alloc::Global;
 
 /// `pub NAME: Periph<MODULE::RegisterBlock, ADDRESS>,`
@@ -18,7 +17,7 @@ pub(crate) fn slot(alloc: Global, text: &[u8]) -> Result<(Slot, &[u8]), Stop>
     let (name, rest) = identifier(alloc, rest)?;
     let rest = expect(rest, Phrase::OpensPeriph)?;
     let (block, rest) = identifier(alloc, rest)?;
-    let rest = expect(rest, Phrase::BlockThenComma)?;
+    let rest = expect(rest, Phrase::BlockThenNext)?;
     let (address, rest) = hexadecimal(alloc, rest)?;
     let rest = expect(rest, Phrase::ClosesSlot)?;
     let slot = Slot {

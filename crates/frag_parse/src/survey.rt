@@ -5,37 +5,46 @@ ghost use Rattle.frag_parse.specs.Survey.{inner_at, step_at, survey_at, surveyed
 
 use crate::fault::Stop;
 use crate::head::block_head;
-use crate::list::braced;
-use crate::phrase::{Phrase, Sign};
-use crate::production::Slots;
+use crate::opening::opening;
 use crate::register::register;
+use crate::sign::Sign;
 use crate::starts::Starts;
 use crate::token::{expect, is_at, is_end};
-use frag_tree::Slot;
+use frag_tree::{Phrase, Version};
 use std::alloc::Global;
 
 /// How many modules are open behind the head of a block module, or behind a register module, where so
 /// many are open before it; and what follows it.
 #[tactic(auto, unfolding(crate::specs::Survey::inner_at))]
-fn inner(alloc: Global, unclosed: usize, text: &[u8]) -> Result<(usize, &[u8]), Stop>
+fn inner(
+    alloc: Global,
+    version: Version,
+    unclosed: usize,
+    text: &[u8],
+) -> Result<(usize, &[u8]), Stop>
     requires { unclosed + length (words_in text.now) < 2 ^ 64 }
-    ensures { Gives (λ found. (found.0, words_in found.1.now)) result (inner_at unclosed (words_in text.now)) }
+    ensures { Gives (λ found. (found.0, words_in found.1.now)) result (inner_at version unclosed (words_in text.now)) }
 {
     let mut starts = Starts::new(alloc, text);
     if is_at(text, 11, Sign::Hash) {
         let (_head, rest) = block_head(alloc, &mut starts, text)?;
         return Ok((unclosed + 1, rest));
     }
-    let (_unit, rest) = register(alloc, &mut starts, text)?;
+    let (_unit, rest) = register(alloc, version, &mut starts, text)?;
     Ok((unclosed, rest))
 }
 
 /// How many block modules are open behind the next head, register module or closing brace, where so many
 /// are open before it; and what follows it.
 #[tactic(auto, unfolding(crate::specs::Survey::step_at))]
-fn step(alloc: Global, unclosed: usize, text: &[u8]) -> Result<(usize, &[u8]), Stop>
+fn step(
+    alloc: Global,
+    version: Version,
+    unclosed: usize,
+    text: &[u8],
+) -> Result<(usize, &[u8]), Stop>
     requires { unclosed + length (words_in text.now) < 2 ^ 64 }
-    ensures { Gives (λ found. (found.0, words_in found.1.now)) result (step_at unclosed (words_in text.now)) }
+    ensures { Gives (λ found. (found.0, words_in found.1.now)) result (step_at version unclosed (words_in text.now)) }
 {
     if unclosed == 0 {
         let mut starts = Starts::new(alloc, text);
@@ -43,7 +52,7 @@ fn step(alloc: Global, unclosed: usize, text: &[u8]) -> Result<(usize, &[u8]), S
         return Ok((1, rest));
     }
     if is_at(text, 0, Sign::Pub) {
-        return inner(alloc, unclosed, text);
+        return inner(alloc, version, unclosed, text);
     }
     let rest = expect(text, Phrase::Closer)?;
     Ok((unclosed - 1, rest))
@@ -58,14 +67,14 @@ fn is_closed(unclosed: usize, text: &[u8]) -> bool
 
 /// Whether the text, of `total` bytes, is block modules up to its end, however deep they nest. Keeps
 /// nothing of them.
-fn survey(alloc: Global, text: &[u8], total: usize) -> Result<(), Stop>
+fn survey(alloc: Global, version: Version, text: &[u8], total: usize) -> Result<(), Stop>
     requires { length text.now ≡ total }
-    ensures { Gives (λ done. done) result (survey_at (words_in text.now)) }
+    ensures { Gives (λ done. done) result (survey_at version (words_in text.now)) }
 {
     let mut unclosed: usize = 0;
     let mut rest = text;
     while !is_closed(unclosed, rest) {
-        let (next, after) = step(alloc, unclosed, rest)?;
+        let (next, after) = step(alloc, version, unclosed, rest)?;
         unclosed = next;
         rest = after;
     }
@@ -78,7 +87,6 @@ pub(crate) fn surveyed(alloc: Global, bytes: &[u8]) -> Result<(), Stop>
     ensures { Gives (λ done. done) result (surveyed_at (words_in bytes.now)) }
 {
     let mut starts = Starts::new(alloc, bytes);
-    let rest = expect(bytes, Phrase::CrateHead)?;
-    let (_slots, rest) = braced::<Slot, Slots>(alloc, &mut starts, rest)?;
-    survey(alloc, rest, rest.len())
+    let (version, _slots, rest) = opening(alloc, &mut starts, bytes)?;
+    survey(alloc, version, rest, rest.len())
 }

@@ -4,8 +4,8 @@ ghost use Rattle.frag_words.specs.Words.{words_in};
 ghost use Rattle.frag_parse.specs.Reading.{Gives, expects, first_at, impl_at, is_end, name_at, name_of, phrase_at, sign_at, sign_then, word_then};
 
 use crate::fault::Stop;
-use crate::phrase::{Phrase, Sign};
-use frag_tree::{Identifier, IdentifierFault};
+use crate::sign::Sign;
+use frag_tree::{Identifier, IdentifierFault, Phrase};
 use frag_words::next_word;
 use std::alloc::Global;
 

@@ -3,14 +3,14 @@ ghost use Rattle.frag_words.specs.Words.{words_in};
 ghost use Rattle.frag_parse.specs.Reading.{Gives, bit_reading_at, bit_writing_at, field_bits_at, field_reading_at, field_writing_at, values_at, writing_at};
 
 use crate::fault::Stop;
-use crate::list::braced;
+use crate::list::{Begins, braced};
 use crate::numeral::decimal;
-use crate::phrase::{Phrase, Sign};
-use crate::production::{NumberTests, NumberWrites, TruthTests, TruthWrites};
+use crate::production::{NumberCalls, TruthCalls};
+use crate::sign::Sign;
 use crate::starts::Starts;
 use crate::token::{expect, identifier, is_at};
 use crate::word::{kind, width};
-use frag_tree::{Identifier, NumberCall, TruthCall, Values};
+use frag_tree::{Identifier, Phrase, Values};
 use pac_base::Width;
 use std::alloc::Global;
 
@@ -26,7 +26,13 @@ fn bit_reading<'a>(
     let rest = expect(text, Phrase::BitReaderImpl)?;
     let (marker, rest) = identifier(alloc, rest)?;
     let rest = expect(rest, Phrase::OpensCalls)?;
-    let (calls, rest) = braced::<TruthCall, TruthTests>(alloc, starts, rest)?;
+    let (calls, rest) = braced(
+        alloc,
+        starts,
+        &TruthCalls { reads: true },
+        Begins::Pub,
+        rest,
+    )?;
     Ok((Values::BitReading { marker, calls }, rest))
 }
 
@@ -44,7 +50,13 @@ fn field_reading<'a>(
     let rest = expect(rest, Phrase::ThenNext)?;
     let (width, rest) = width(rest)?;
     let rest = expect(rest, Phrase::OpensCalls)?;
-    let (calls, rest) = braced::<NumberCall, NumberTests>(alloc, starts, rest)?;
+    let (calls, rest) = braced(
+        alloc,
+        starts,
+        &NumberCalls { reads: true },
+        Begins::Pub,
+        rest,
+    )?;
     let values = Values::FieldReading {
         marker,
         width,
@@ -67,7 +79,13 @@ fn bit_writing<'a>(
     let rest = expect(rest, Phrase::OfSpecInImpl)?;
     let (marker, rest) = identifier(alloc, rest)?;
     let rest = expect(rest, Phrase::OpensCalls)?;
-    let (calls, rest) = braced::<TruthCall, TruthWrites>(alloc, starts, rest)?;
+    let (calls, rest) = braced(
+        alloc,
+        starts,
+        &TruthCalls { reads: false },
+        Begins::Pub,
+        rest,
+    )?;
     let values = Values::BitWriting {
         kind,
         marker,
@@ -90,7 +108,13 @@ fn field_bits<'a>(
     let rest = expect(text, Phrase::ThenNext)?;
     let (bits, rest) = decimal(alloc, rest)?;
     let rest = expect(rest, Phrase::OpensCalls)?;
-    let (calls, rest) = braced::<NumberCall, NumberWrites>(alloc, starts, rest)?;
+    let (calls, rest) = braced(
+        alloc,
+        starts,
+        &NumberCalls { reads: false },
+        Begins::Pub,
+        rest,
+    )?;
     let values = Values::FieldWriting {
         marker,
         width,

@@ -1,11 +1,11 @@
 ghost use Rattle.std.specs.Prelude.{◌≡◌};
 ghost use Rattle.std.specs.Str.{bytes_eq};
 ghost use Rattle.frag_words.specs.Words.{words_in};
-ghost use Rattle.frag_parse.specs.Phrases.{sign_word};
+ghost use Rattle.frag_parse.specs.Signs.{sign_word};
 ghost use Rattle.frag_parse.specs.Reading.{Gives, kind_at, kind_of, truth_at, truth_of, width_at, width_of};
 
 use crate::fault::Stop;
-use crate::phrase::Sign;
+use crate::sign::Sign;
 use crate::token::{first_word, left_at};
 use frag_tree::BitKind;
 use pac_base::Width;
@@ -18,7 +18,7 @@ fn spells(sign: Sign, word: &[u8]) -> bool
 }
 
 /// The width whose type the word is.
-#[tactic(auto, unfolding(crate::specs::Reading::width_of, crate::specs::Phrases::sign_word))]
+#[tactic(auto, unfolding(crate::specs::Reading::width_of, crate::specs::Signs::sign_word))]
 fn width_of(word: &[u8]) -> Option<Width>
     ensures { result ≡ width_of word.now }
 {
@@ -38,7 +38,7 @@ fn width_of(word: &[u8]) -> Option<Width>
 }
 
 /// The truth that the word is.
-#[tactic(auto, unfolding(crate::specs::Reading::truth_of, crate::specs::Phrases::sign_word))]
+#[tactic(auto, unfolding(crate::specs::Reading::truth_of, crate::specs::Signs::sign_word))]
 fn truth_of(word: &[u8]) -> Option<bool>
     ensures { result ≡ truth_of word.now }
 {
@@ -52,7 +52,7 @@ fn truth_of(word: &[u8]) -> Option<bool>
 }
 
 /// The kind of bit whose writer the word is.
-#[tactic(auto, unfolding(crate::specs::Reading::kind_of, crate::specs::Phrases::sign_word))]
+#[tactic(auto, unfolding(crate::specs::Reading::kind_of, crate::specs::Signs::sign_word))]
 fn kind_of(word: &[u8]) -> Option<BitKind>
     ensures { result ≡ kind_of word.now }
 {

@@ -1,5 +1,5 @@
 use frag_parse::{ParseFault, parse_crate};
-use frag_tree::print_crate;
+use frag_tree::{Version, print_crate};
 use pac_io::{MemSink, SinkFault};
 use std::alloc::Global;
 use std::test::Fail;
@@ -55,6 +55,126 @@ fn what_is_read_is_printed_as_it_was(rt: HostRuntime) -> Result<(), Fail> {
     failing.fail(1)?;
     let printed = print_crate(rt.alloc(), &krate, &mut failing);
     assert!(rt; matches!(printed, Err(SinkFault::Failed)));
+    Ok(())
+}
+
+// A text of version 2, with a bit and a number whose calls take an index.
+const INDEXED: &str = "pub const CRATE_TEXT: u32 = 0x2;
+use crate::generic::*;
+
+pub struct Peripherals {
+    pub D: Periph<d::RegisterBlock, 0x50000000>,
+}
+
+pub mod d {
+    use crate::generic::*;
+    #[repr(C)]
+    pub struct RegisterBlock {
+        en: Reg<en::Spec>,
+    }
+    impl RegisterBlock {
+        pub fn en(&self) -> &Reg<en::Spec> { &self.en }
+    }
+    pub mod en {
+        use crate::generic::*;
+        pub struct Spec;
+        impl RegisterSpec for Spec { type Ux = u32; }
+        impl Resettable for Spec { const RESET_VALUE: u32 = 0x0; }
+        pub struct CH_F;
+        pub struct LV_F;
+        impl R<Spec> {
+            pub fn ch(&self, n: usize) -> BitReader<CH_F> { BitReader::new(((self.bits >> at_bit(0, 4, 8, n)) & 0x1) != 0x0) }
+            pub fn lv(&self, n: usize) -> FieldReader<LV_F, u8> { FieldReader::new(((self.bits >> at_bit(0, 8, 4, n)) & 0x3) as u8) }
+        }
+        impl W<Spec> {
+            pub fn ch(&mut self, n: usize) -> BitWriter<'_, Spec, CH_F> { BitWriter::new(self, at_bit(0, 4, 8, n)) }
+            pub fn lv(&mut self, n: usize) -> FieldWriter<'_, Spec, LV_F, u8, 2> { FieldWriter::new(self, at_bit(0, 8, 4, n)) }
+        }
+    }
+}
+";
+
+#[test]
+fn version_two_is_printed_as_it_was_read(rt: HostRuntime) -> Result<(), Fail> {
+    let krate = parse_crate(rt.alloc(), INDEXED.as_bytes())?;
+    assert!(rt; matches!(krate.version, Version::Two));
+    let mut sink = MemSink::new(rt.alloc());
+    print_crate(rt.alloc(), &krate, &mut sink)?;
+    assert_eq!(rt; sink.written(), INDEXED.as_bytes());
+    Ok(())
+}
+
+// Up to this byte, behind its slots, the text is a crate without modules.
+const SLOTS: usize = 134;
+
+// The text with one byte in the place of another.
+fn spoiled(alloc: Global, place: usize) -> Result<Vec<u8>, Fail> {
+    let mut bytes = Vec::from_slice(alloc, INDEXED.as_bytes())?;
+    if let Some(byte) = bytes.get_mut(place) {
+        *byte = b'@';
+    }
+    Ok(bytes)
+}
+
+// Whether the bytes are no crate.
+fn is_syntax(alloc: Global, bytes: &[u8]) -> bool {
+    matches!(parse_crate(alloc, bytes), Err(ParseFault::Syntax { .. }))
+}
+
+#[test]
+fn no_part_of_version_two_can_be_left_out(rt: HostRuntime) -> Result<(), Fail> {
+    let whole = INDEXED.as_bytes();
+    for (place, byte) in whole.iter().enumerate() {
+        if *byte == b' ' || *byte == b'\n' {
+            continue;
+        }
+        let front = whole.split_at(place).0;
+        assert!(rt; is_syntax(rt.alloc(), front) == (place != SLOTS), "up to {place}");
+        let other = spoiled(rt.alloc(), place)?;
+        assert!(rt; is_syntax(rt.alloc(), other.as_slice()), "at {place}");
+    }
+    Ok(())
+}
+
+// What is put in the place of what, once in the text of version 2, and what reading stops at.
+const EDITED: [(&str, &str, &str); 9] = [
+    ("0x2;\nuse", "0x3;\nuse", "0x3"),
+    ("0x2;\nuse", "0x02;\nuse", "0x02"),
+    // two lines of the version, and none
+    (
+        "use crate",
+        "pub const CRATE_TEXT: u32 = 0x2; use crate",
+        "pub const CRATE_TEXT: u32 = 0x2; use",
+    ),
+    (
+        "pub const CRATE_TEXT: u32 = 0x2;",
+        "",
+        ", n: usize) -> BitReader",
+    ),
+    (
+        "R<Spec> {\n            pub fn ch(&self, n: usize)",
+        "R<Spec> {\n            pub fn ch(&self)",
+        "at_bit",
+    ),
+    // arguments of `at_bit`
+    ("at_bit(0, 4, 8, n)) &", "at_bit(0, 4, n)) &", "n)) & 0x1"),
+    ("at_bit(0, 4, 8, n)) &", "at_bit(0, 4, 8, 1, n)) &", "1, n)"),
+    ("at_bit(0, 4, 8, n)) &", "at_bit(0, 4, 8, i)) &", "i)) &"),
+    ("at_bit(0, 4, 8, n)) &", "at_bit(0, 0x4, 8, n)) &", "0x4, 8"),
+];
+
+#[test]
+fn version_two_refused_where_it_is_edited(rt: HostRuntime) -> Result<(), Fail> {
+    for (old, new, stops) in EDITED {
+        let Some((before, after)) = INDEXED.split_once(old) else {
+            continue;
+        };
+        let text = format!(in rt.alloc(); "{before}{new}{after}")?;
+        assert!(rt;
+            syntax_at(rt.alloc(), text.as_str()) == text.find(stops),
+            "{new}"
+        );
+    }
     Ok(())
 }
 

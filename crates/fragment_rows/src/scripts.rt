@@ -4,7 +4,7 @@ use std::alloc::Global;
 use std::test::Fail;
 
 // Scripts, and how many statements each has.
-const READ: [(&str, usize); 11] = [
+const READ: [(&str, usize); 15] = [
     ("let s = A.b().read();", 1),
     ("A.b(0xF_f).write(|w| w);", 1),
     ("A.b(1_0).c().write(|w| w.bits(!true).x().y());", 1),
@@ -15,6 +15,11 @@ const READ: [(&str, usize); 11] = [
     ("say(!300);", 1),
     ("say(18446744073709551615);", 1),
     ("say.x().reset();", 1),
+    // fields with an index
+    ("A.b().write(|w| w.x(0x1_f).y().z(2).y(!true));", 1),
+    ("say(r.x(3).y() as u16);", 1),
+    ("A.bits(3).c().write(|w| w.bits(3).bits().x());", 1),
+    ("say(r.bits().y());", 1),
     // the vendor's script
     (
         "TIM2.cr1().modify(|_, w| w.cen().enabled().ckd().bits(2));
@@ -28,7 +33,7 @@ TIM2.ccr(1).write(|w| w.bits(0x1f4));
 ];
 
 // Scripts, and the first line of each that holds no statement.
-const REFUSED: [(&str, u32); 9] = [
+const REFUSED: [(&str, u32); 15] = [
     ("\n\nsay(1__0);", 3),
     ("// \r\n\nsay(0x_1);", 3),
     ("say(1);\n \t\r\nsay(1_);", 3),
@@ -38,6 +43,13 @@ const REFUSED: [(&str, u32); 9] = [
     ("\n\nlet let = A.b().read();", 3),
     ("\n\nsay(1); say(1);", 3),
     ("\n\nsay(1)\r;", 3),
+    // an index where there is none, and no number as an index
+    ("\n\nA.b().write(|w| w.x(1));", 3),
+    ("\n\nA.b().write(|w| w.x(1, 2).y());", 3),
+    ("\n\nA.b().write(|w| w.x(true).y());", 3),
+    ("\n\nsay(r.bits(3).y());", 3),
+    ("\n\nsay(r.x(3));", 3),
+    ("\n\nsay(r.x(18446744073709551616).y());", 3),
 ];
 
 // How many statements the text has, or its first wrong line; line 0 stands for any other fault.

@@ -7,8 +7,6 @@ mod matching;
 mod member;
 mod naming;
 mod pattern;
-#[cfg(test)]
-mod tests;
 mod token;
 
 pub use pattern::{Pattern, PatternFault};

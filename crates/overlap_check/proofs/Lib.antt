@@ -1,6 +1,5 @@
 pub mod Clashing
 pub mod Elements
-pub mod Empty
 pub mod FirstFault
 pub mod Firsts
 pub mod LookedUp

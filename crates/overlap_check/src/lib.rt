@@ -9,8 +9,6 @@ mod meeting;
 mod place;
 mod rule;
 mod telling;
-#[cfg(test)]
-mod tests;
 mod walk;
 
 pub use checking::check;

@@ -9,8 +9,6 @@ mod name;
 mod path;
 mod seq;
 mod span;
-#[cfg(test)]
-mod tests;
 mod text;
 mod width;
 

@@ -14,8 +14,6 @@ mod page;
 mod sink;
 mod std_files;
 mod std_sink;
-#[cfg(test)]
-mod tests;
 
 pub use bytes::Bytes;
 pub use fault::{FilesFault, SinkFault};

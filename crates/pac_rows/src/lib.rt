@@ -3,6 +3,10 @@
 #![tactic(auto)]
 
 #[cfg(test)]
+mod faults;
+#[cfg(test)]
 mod harness;
 #[cfg(test)]
-mod listing;
+mod registers;
+#[cfg(test)]
+mod surroundings;

@@ -21,8 +21,6 @@ mod patch;
 mod place;
 mod refusal;
 mod table;
-#[cfg(test)]
-mod tests;
 mod texts;
 mod unmet;
 mod value;

@@ -14,5 +14,3 @@ pub use listing::list_text;
 pub use row::{Call, Calls, FieldDim, FieldRow, FieldRows, Row, RowPath, Table};
 pub use table_rows::table;
 
-#[cfg(test)]
-mod tests;

@@ -15,8 +15,6 @@ mod place;
 mod read;
 mod row;
 mod stated;
-#[cfg(test)]
-mod tests;
 mod text;
 mod written;
 

@@ -1,5 +1,4 @@
 pub mod Copies
-pub mod Empty
 pub mod Entries
 pub mod Nesting
 pub mod Placed

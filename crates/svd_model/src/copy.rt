@@ -7,19 +7,9 @@ use crate::device::{
 use crate::sibling::Sibling;
 use crate::states::Described;
 use indexmap::IndexMap;
-use pac_base::{Name, NoMemory, Path, Seq, Step, Text};
+use pac_base::{Name, NoMemory, Path, Seq, Step};
 use std::alloc::Global;
 use svd_values::{DimIndex, Words};
-
-/// The same text once more. The bytes of a text are UTF-8, so memory alone can be wanting.
-pub fn copied_text(alloc: Global, text: &Text) -> Result<Text, NoMemory>
-    ensures { IfOk result (λ made. made ≡ text.now) }
-{
-    match Text::new(alloc, text.as_str().as_bytes()) {
-        Ok(made) => Ok(made),
-        Err(_) => Err(NoMemory),
-    }
-}
 
 /// The same name once more, where there is one.
 pub fn copied_name(alloc: Global, name: &Option<Name>) -> Result<Option<Name>, NoMemory>
@@ -118,7 +108,7 @@ fn copied_variants(alloc: Global, variants: &[Variant]) -> Result<Vec<Variant>, 
     let mut made = Vec::new(alloc);
     for variant in variants {
         made.push(Variant {
-            name: copied_text(alloc, &variant.name)?,
+            name: variant.name.copy(alloc)?,
             value: variant.value,
         })?;
     }
@@ -274,7 +264,7 @@ fn copied_device(alloc: Global, device: &Device) -> Result<Device, NoMemory>
     ensures { IfOk result (λ made. device_tree made ≡ device_tree device.now) }
 {
     Ok(Device {
-        name: copied_text(alloc, &device.name)?,
+        name: device.name.copy(alloc)?,
         props: device.props,
         peripherals: copied_peripherals(alloc, &device.peripherals)?,
     })

@@ -13,10 +13,8 @@ mod passages;
 mod props;
 mod sibling;
 mod states;
-#[cfg(test)]
-mod tests;
 
-pub use copy::{copied_dim, copied_name, copied_path, copied_sets, copied_text};
+pub use copy::{copied_dim, copied_name, copied_path, copied_sets};
 pub use counted::Counted;
 pub use device::{Child, Cluster, Device, Dim, Field, Item, Peripheral, Register, Values, Variant};
 pub use facts::{FieldFacts, RegisterFacts};

@@ -12,8 +12,6 @@ mod kept;
 mod peripheral;
 mod reader;
 mod register;
-#[cfg(test)]
-mod tests;
 mod values;
 
 pub use fault::SvdFault;

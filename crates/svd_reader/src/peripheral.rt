@@ -10,7 +10,7 @@ use crate::element::{inside, is_named};
 use crate::kept::keep_under;
 use crate::register::children;
 use indexmap::IndexMap;
-use pac_base::{NoMemory, Text};
+use pac_base::{NoMemory, Text, TextFault};
 use std::alloc::Global;
 use svd_keys::{Keys, own_keys};
 use svd_model::{Device, Peripheral, Sibling};
@@ -70,9 +70,10 @@ fn text_or_empty(alloc: Global, text: Option<Text>) -> Result<Text, NoMemory>
 {
     match text {
         Some(text) => Ok(text),
-        None => match Text::new(alloc, b"") {
+        None => match Text::new(alloc, "".as_bytes()) {
             Ok(text) => Ok(text),
-            Err(_) => Err(NoMemory),
+            Err(TextFault::NotUtf8) => unreachable!(),
+            Err(TextFault::Memory) => Err(NoMemory),
         },
     }
 }

@@ -7,7 +7,7 @@ ghost use Rattle.svd_text.specs.Views.{element_of};
 use crate::fault::SvdFault;
 use crate::first_fault::first_fault;
 use crate::peripheral::device;
-use pac_base::Text;
+use pac_base::{Text, TextFault as NotText};
 use std::alloc::Global;
 use svd_keys::Fault;
 use svd_model::{Counted, Described};
@@ -27,7 +27,8 @@ fn element_fault(alloc: Global, fault: Fault) -> SvdFault
         Fault::BadValue { span, kind } => SvdFault::BadValue { span, kind },
         Fault::MissingElement { span, key } => match Text::new(alloc, key.name().as_bytes()) {
             Ok(key) => SvdFault::MissingElement { span, key },
-            Err(_) => SvdFault::Memory,
+            Err(NotText::NotUtf8) => unreachable!(),
+            Err(NotText::Memory) => SvdFault::Memory,
         },
     }
 }

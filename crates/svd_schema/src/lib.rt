@@ -9,8 +9,6 @@ mod name;
 mod roles;
 mod rows;
 mod table;
-#[cfg(test)]
-mod tests;
 
 pub use container::Container;
 pub use key::Key;

@@ -19,5 +19,3 @@ pub use fault::TextFault;
 pub use said::Said;
 pub use text::{one_element, read_element};
 
-#[cfg(test)]
-mod tests;

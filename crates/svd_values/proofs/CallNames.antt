@@ -215,3 +215,9 @@ variant_plain text some = inl (some_map to_ascii_lowercase (map plain_byte text)
 
 pub is_call_is_name : (text : List ℕ) → IsName (is_call_name text)
 is_call_is_name text = inl ((λ e. cc), word_append (codes "is_") (plain_lower text) refl (lower_word (map plain_byte text) (plain_word text)))
+
+pub plain_lower_word : (text : List ℕ) → IsWord (plain_lower text)
+plain_lower_word text = lower_word (map plain_byte text) (plain_word text)
+
+pub some_lower : (word : List ℕ) → word ≢ [] → str_to_ascii_lowercase word ≢ []
+some_lower word some = some_map to_ascii_lowercase word some

@@ -1,6 +1,7 @@
 pub mod CallNames
 pub mod Fronts
 pub mod Givens
+pub mod Identifiers
 pub mod IndexRanges
 pub mod Lookup
 pub mod Meanings

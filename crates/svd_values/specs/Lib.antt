@@ -1,5 +1,6 @@
 pub mod AccessorNames
 pub mod Given
+pub mod Identifiers
 pub mod Indexes
 pub mod Meanings
 pub mod Numbers

@@ -11,14 +11,12 @@ mod place;
 mod reserved;
 mod schema_word;
 mod table;
-#[cfg(test)]
-mod tests;
 
 pub use call_name::{accessor, is_call, slot_name, variant_call};
 pub use index::{DimIndex, IndexFault, Words, dim_index};
 pub use meaning::{
-    bit_range_has_one_meaning, dim_index_has_one_meaning, number_has_one_meaning,
-    value_bits_has_one_meaning,
+    bit_range_has_one_meaning, dim_index_has_one_meaning, names_are_identifiers,
+    number_has_one_meaning, value_bits_has_one_meaning,
 };
 pub use numeral::{number, value_bits};
 pub use place::{Place, bit_range};

@@ -1,3 +1,4 @@
+ghost use Rattle.svd_values.specs.Identifiers.{AccessorsAreCallNames, MarkersAreIdentifiers, SlotsAreIdentifiers, TestsAreCallNames, VariantsAreCallNames};
 ghost use Rattle.svd_values.specs.Meanings.{HasOneNumber, HasOneValue, HasOnePlace, HasOneIndex};
 
 /// A law: no text is a number of two values.
@@ -27,3 +28,12 @@ pub fn dim_index_has_one_meaning(text: &[u8])
 {
     let _ = text;
 }
+
+/// A law: the names of a generated crate are identifiers, and no call has a name of the prelude or of a gap.
+pub fn names_are_identifiers()
+    ensures accessors { AccessorsAreCallNames }
+    ensures variants { VariantsAreCallNames }
+    ensures tests { TestsAreCallNames }
+    ensures slots { SlotsAreIdentifiers }
+    ensures markers { MarkersAreIdentifiers }
+{}

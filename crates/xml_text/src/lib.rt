@@ -23,5 +23,3 @@ pub use opening::after_opening;
 pub use part::{Part, one_list_of_parts, split_part};
 pub use tag::Tag;
 
-#[cfg(test)]
-mod tests;

@@ -18,8 +18,6 @@ mod quoted;
 mod refusal;
 mod scalar;
 mod space;
-#[cfg(test)]
-mod tests;
 mod value;
 
 pub use block::{one_mapping, one_node, read_block};

@@ -2,7 +2,7 @@
 use Rattle.std.proofs.Common.{sym, ap, ◌∙◌, subst}
 use Rattle.dim_expand.proofs.FirstFault.{is-first}
 use Rattle.dim_expand.proofs.Stated.{device-tree-dim}
-use Rattle.dim_expand.proofs.Whole.{whole-rows, whole-fault, whole-fact, none-found}
+use Rattle.dim_expand.proofs.Whole.{whole-rows, whole-fault, whole-fact, whole-narrow, none-found}
 use Rattle.svd_model.specs.Facts.{IsUnfoldedTree}
 use Rattle.svd_model.specs.Trees.{device_tree, device_rows}
 use Rattle.svd_rows.specs.Rows.{rows}
@@ -13,14 +13,16 @@ returns-in-Ok-clause-rows c =
     let tree = device_tree c.args.device.now in
     let none = sym c.in-Ok-None.ensures.fault ∙ c.in-Ok-None.field-0-is in
     let found = none-found tree.below none in
-    ap rows c.in-Ok.ensures ∙ whole-rows tree c.requires (c.in-Ok-None.ensures.typed found) found
+    let made = c.in-Ok.ensures (whole-narrow tree c.requires (c.in-Ok-None.ensures.typed found) none) in
+    ap rows made ∙ whole-rows tree c.requires (c.in-Ok-None.ensures.typed found) found
 
 pub returns-in-Ok-clause-fact : goal.returns-in-Ok-clause-fact
 returns-in-Ok-clause-fact c =
     let tree = device_tree c.args.device.now in
     let none = sym c.in-Ok-None.ensures.fault ∙ c.in-Ok-None.field-0-is in
     let found = none-found tree.below none in
-    subst IsUnfoldedTree (sym c.in-Ok.ensures) (whole-fact tree c.requires (device-tree-dim c.args.device.now) (c.in-Ok-None.ensures.typed found) none)
+    let made = c.in-Ok.ensures (whole-narrow tree c.requires (c.in-Ok-None.ensures.typed found) none) in
+    subst IsUnfoldedTree (sym made) (whole-fact tree c.requires (device-tree-dim c.args.device.now) (c.in-Ok-None.ensures.typed found) none)
 
 pub returns-in-Ok-clause-faultless : goal.returns-in-Ok-clause-faultless
 returns-in-Ok-clause-faultless c =

@@ -1,8 +1,11 @@
-use Rattle.frag_parse.proofs.Told.{bounded, complete, refused, spelled}
+use Rattle.frag_parse.proofs.Told.{bounded, complete, refused, spelled, valid}
 use Rattle.frag_parse.proofs.krate.parse_crate.Goals as goal
 
 pub returns-clause-spelled : goal.returns-clause-spelled
 returns-clause-spelled c = spelled c.args.bytes.now c.read.result c.read.ensures
+
+pub returns-clause-valid : goal.returns-clause-valid
+returns-clause-valid c = valid c.args.bytes.now c.read.result c.read.ensures
 
 pub returns-clause-bounded : goal.returns-clause-bounded
 returns-clause-bounded c = bounded c.args.bytes.now c.read.result c.read.ensures

@@ -14,7 +14,7 @@ abbrev pub decreases-block : goal.decreases-block
 decreases-block l = 3 * l.inside + 3
 
 abbrev pub invariant-modules-loop-alloc : goal.invariant-modules-loop-alloc
-invariant-modules-loop-alloc l = SoFar l.depth l.modules.items (words_in l.rest) (all_modules (words_in l.text))
+invariant-modules-loop-alloc l = SoFar l.version l.depth l.modules.items (words_in l.rest) (all_modules l.version (words_in l.text))
 
 abbrev pub decreases-modules-loop-alloc : goal.decreases-modules-loop-alloc
 decreases-modules-loop-alloc l = length (words_in l.rest)

@@ -3,4 +3,4 @@ use Rattle.frag_parse.proofs.Same.{reader_same}
 use Rattle.frag_parse.proofs.production.ReadersProductionReader.read.Goals as goal
 
 pub returns : goal.returns
-returns c = rw (reader_same (words_in c.args.text.now)) c.reader.ensures
+returns c = rw (reader_same c.args.self.now.version (words_in c.args.text.now)) c.reader.ensures

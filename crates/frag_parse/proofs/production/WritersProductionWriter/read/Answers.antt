@@ -3,4 +3,4 @@ use Rattle.frag_parse.proofs.Same.{writer_same}
 use Rattle.frag_parse.proofs.production.WritersProductionWriter.read.Goals as goal
 
 pub returns : goal.returns
-returns c = rw (writer_same (words_in c.args.text.now)) c.writer.ensures
+returns c = rw (writer_same c.args.self.now.version (words_in c.args.text.now)) c.writer.ensures

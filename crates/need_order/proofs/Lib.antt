@@ -1,0 +1,10 @@
+pub mod Numbers
+pub mod Settling
+pub mod Reaching
+pub mod Circles
+pub mod Following
+pub mod Levels
+pub mod Depths
+pub mod Sums
+pub mod Steps
+pub mod Deepening

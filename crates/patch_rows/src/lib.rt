@@ -1,0 +1,12 @@
+// The worked rows of patches: whole texts of the block language, of patterns and of commands, with what
+// they spell or what is wrong with them.
+#![tactic(auto)]
+
+#[cfg(test)]
+mod blocks;
+#[cfg(test)]
+mod patches;
+#[cfg(test)]
+mod patterns;
+#[cfg(test)]
+mod told;

@@ -1,0 +1,5 @@
+use Rattle.register_form.proofs.Words.{fields_give, fields_put, starts_are}
+use Rattle.register_form.proofs.laws.words_law.Goals as goal
+
+pub returns : goal.returns
+returns c = record { given = fields_give; put = fields_put; start = starts_are }
