@@ -51,9 +51,9 @@ places_are_registers test krate all place = place_has test krate all place.steps
 -- ---- a register in range
 
 -- a register that ends at or below 2^64, and keeps words
-record InRange (found : ActsAt) : Type 0 where
-  ends : found.address + bits_of found.acts.width / 8 ≤ 2 ^ 64
-  words : KeepsWords found.acts
+pub record InRange (found : ActsAt) : Type 0 where
+  pub ends : found.address + bits_of found.acts.width / 8 ≤ 2 ^ 64
+  pub words : KeepsWords found.acts
 
 both_here : (o : Option RegisterAt) {P Q : RegisterAt → Type 0} → IfSome o P → IfSome o Q → ((x : RegisterAt) → P x → Q x → InRange (acts_at x)) → IfSome (option_map acts_at o) InRange
 both_here None p q r = tt
@@ -99,7 +99,7 @@ outcome_in_range places range standing (statement.Reset place) =
     (λ found in_it. ((in_it.ends, in_it.words.reset), tt))
 outcome_in_range places range standing (statement.Say value) = (tt, tt)
 
-lines_in_range : (places : Places) → ((place : Place) → IfSome (places place) InRange) → (lines : List ScriptLine) (standing : Standing) → AllByRecursion EventInRange (lines_meaning places lines standing)
+pub lines_in_range : (places : Places) → ((place : Place) → IfSome (places place) InRange) → (lines : List ScriptLine) (standing : Standing) → AllByRecursion EventInRange (lines_meaning places lines standing)
 unfolding lines_meaning
 lines_in_range places range [] standing = tt
 lines_in_range places range (first ∷ others) standing =
@@ -117,7 +117,7 @@ preset_in_range : (found : Option ActsAt) (others : List Preset) → IfSome foun
 preset_in_range None others h more = more
 preset_in_range (Some found) others h more = ((h.ends, h.words.reset), more)
 
-presets_of_places : (places : Places) → ((place : Place) → IfSome (places place) InRange) → (called : List Place) → AllByRecursion (λ preset. AccessInRange preset.address preset.width preset.value) (filter_map (λ place. option_map preset_of (places place)) called)
+pub presets_of_places : (places : Places) → ((place : Place) → IfSome (places place) InRange) → (called : List Place) → AllByRecursion (λ preset. AccessInRange preset.address preset.width preset.value) (filter_map (λ place. option_map preset_of (places place)) called)
 presets_of_places places range [] = tt
 presets_of_places places range (place ∷ called) =
     preset_in_range (places place) (filter_map (λ other. option_map preset_of (places other)) called) (range place) (presets_of_places places range called)
@@ -146,7 +146,7 @@ outcome_answered places standing (statement.Reset place) others more =
     at_answered (places place) standing (reset_outcome standing) others more (λ found. more standing)
 outcome_answered places standing (statement.Say value) others more = more standing
 
-lines_answered : (places : Places) (lines : List ScriptLine) (standing : Standing) → AreAnswered (lines_meaning places lines standing) standing.answers
+pub lines_answered : (places : Places) (lines : List ScriptLine) (standing : Standing) → AreAnswered (lines_meaning places lines standing) standing.answers
 unfolding lines_meaning AreAnswered
 lines_answered places [] standing = tt
 lines_answered places (first ∷ others) standing = outcome_answered places standing first.statement (lines_meaning places others) (lines_answered places others)

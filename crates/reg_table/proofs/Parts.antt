@@ -1,5 +1,5 @@
 -- The children of an element with their rows, as the tree has them.
-use Rattle.std.proofs.Common.{◌≡◌, ℕ, ◌+◌, Bool, ◌&&◌, List, [], ◌∷◌, map, Option, unwrap_or, refl, sym, ap, ap₂, ◌∙◌, subst}
+use Rattle.std.proofs.Common.{◌≡◌, ℕ, ◌+◌, Bool, ◌&&◌, List, [], ◌∷◌, map, Option, None, unwrap_or, refl, sym, ap, ap₂, ◌∙◌, subst}
 use Rattle.reg_table.specs.Calls.{parts, value_part, set_part, sets_of, plain_value, plain_set, set_calls_of, serves_reading, serves_writing}
 use Rattle.reg_table.specs.Fields.{field_row, field_part, width_in}
 use Rattle.svd_model.specs.declared.device.Field.{Field}
@@ -98,6 +98,7 @@ module _ (key : Sibling) (field : Field) where
     name = accessor_name key.name;
     offset = unwrap_or field.place.offset 0;
     width = unwrap_or field.place.width 1;
+    dim = None;
     readable = readable && passes_at can_read field.access;
     writable = writable && passes_at can_write field.access;
     kind = unwrap_or (nearest (field.kind ∷ kind ∷ [])) Modify;
@@ -113,6 +114,7 @@ module _ (key : Sibling) (field : Field) where
         name = accessor_name key.name;
         offset = unwrap_or (offset i) 0;
         width = width-field i;
+        dim = None;
         readable = readable && passes_at can_read (access-field i);
         writable = writable && passes_at can_write (access-field i);
         kind = unwrap_or (nearest (of_kind i ∷ kind ∷ [])) Modify;

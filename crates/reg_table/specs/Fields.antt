@@ -1,5 +1,5 @@
 -- The fields of a register's row (CMSIS-SVD 1.3, `field`): what the flat rows of a field tell of it.
-use Rattle.std.specs.Prelude.{ℕ, ◌+◌, ◌≤◌, Bool, ◌&&◌, List, [], ◌∷◌, Option, unwrap_or}
+use Rattle.std.specs.Prelude.{ℕ, ◌+◌, ◌≤◌, Bool, ◌&&◌, List, [], ◌∷◌, Option, None, unwrap_or}
 use Rattle.reg_table.specs.Calls.{SetsAreNamed, sets_of, serves_reading, serves_writing, set_calls_of}
 use Rattle.reg_table.specs.declared.row.FieldRow.{FieldRow}
 use Rattle.svd_model.specs.declared.device.Field.{Field}
@@ -20,12 +20,14 @@ use Rattle.svd_values.specs.declared.schema_word.WriteKind.TheVariants.{Modify}
 abbrev pub width_in : List Key → ℕ
 width_in keys = unwrap_or (value_of stated_width keys) 1
 
--- a field of a register of these directions, whose writes do this where the field doesn't say
+-- a field of a register of these directions, whose writes do this where the field doesn't say; it is no array, for each
+-- member stands as a field by itself
 unfoldable pub field_row : Bool → Bool → Option WriteKind → (Step × List (Row Step Key)) → FieldRow
 field_row readable writable kind part = record {
   name = accessor_name part.0.name;
   offset = unwrap_or (value_of stated_offset (keys_of part.1)) 0;
   width = width_in (keys_of part.1);
+  dim = None;
   readable = readable && passes_at can_read (value_of stated_access (keys_of part.1));
   writable = writable && passes_at can_write (value_of stated_access (keys_of part.1));
   kind = unwrap_or (nearest (value_of stated_kind (keys_of part.1) ∷ kind ∷ [])) Modify;

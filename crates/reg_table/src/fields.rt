@@ -46,6 +46,7 @@ fn field_row(
         name: accessor(alloc, &key.name)?,
         offset,
         width,
+        dim: None,
         readable: facts.readable,
         writable: facts.writable,
         kind: facts.kind,

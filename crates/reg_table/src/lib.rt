@@ -11,6 +11,6 @@ mod row;
 mod table_rows;
 
 pub use listing::list_text;
-pub use row::{Call, Calls, FieldRow, FieldRows, Row, RowPath, Table};
+pub use row::{Call, Calls, FieldDim, FieldRow, FieldRows, Row, RowPath, Table};
 pub use table_rows::table;
 

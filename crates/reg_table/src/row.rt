@@ -38,10 +38,12 @@ pub struct RowPath {
 pub struct FieldRow {
     /// The name of its calls.
     pub name: Name,
-    /// The number of its lowest bit.
+    /// The number of its lowest bit, and of the first member's, where it is an array.
     pub offset: u32,
-    /// How many bits it has.
+    /// How many bits it has, and each member of an array.
     pub width: u32,
+    /// The members, where it is an array.
+    pub dim: Option<FieldDim>,
     /// Whether it can be read.
     pub readable: bool,
     /// Whether it can be written.
@@ -52,6 +54,15 @@ pub struct FieldRow {
     pub is_calls: Calls,
     /// The calls that write an enumerated value.
     pub set_calls: Calls,
+}
+
+/// The members of an array of fields: as many as `count`, each `step` bits behind the one before.
+#[derive(Clone, Copy)]
+pub struct FieldDim {
+    /// How many members there are.
+    pub count: u64,
+    /// How many bits each starts behind the one before.
+    pub step: u64,
 }
 
 /// The call of an enumerated value.

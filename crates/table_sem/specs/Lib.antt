@@ -1,0 +1,13 @@
+pub mod Methods
+pub mod Members
+pub mod StartNumber
+pub mod RowActs
+pub mod TableMeaning
+pub mod Names
+pub mod TableSurface
+pub mod RowFacts
+pub mod WorkedTables
+pub mod Worked
+pub mod SurfaceWalk
+pub mod Entries
+pub mod Laws
