@@ -47,7 +47,7 @@ build() {
     local line crate=''
     command -v rt >/dev/null || {
         say "$1, and the command rt, which proves and builds it, isn't there."
-        say "rt is bin/rt of the Rattle kit (rattle-kit-13b). Unpack the kit and put its folder bin into PATH, as in"
+        say "rt is bin/rt of the Rattle kit (rattle-kit-13f). Unpack the kit and put its folder bin into PATH, as in"
         say "    PATH=/opt/rattle/bin:\$PATH ./pac list examples/one_register.svd"
         exit 127
     }

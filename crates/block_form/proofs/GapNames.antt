@@ -6,7 +6,8 @@ use Rattle.std.proofs.lemmas.Slice.Eq.{bytes_eq-Decides}
 use Rattle.std.specs.Fmt.{digits, digits_onto, digit_glyph}
 use Rattle.std.specs.List.{list_all}
 use Rattle.pac_base.specs.Names.{IsWord, is_word_byte}
-use Rattle.frag_tree.specs.Identifiers.{IsIdentifier, is_keyword}
+use Rattle.rust_names.specs.Identifiers.{IsIdentifier}
+use Rattle.rust_names.specs.Keywords.{is_keyword}
 use Rattle.block_form.specs.Gaps.{gap_name}
 
 digit-word : (d : ℕ) → d < 10 → is_word_byte (digit_glyph false d) ≡ true

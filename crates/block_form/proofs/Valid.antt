@@ -5,7 +5,7 @@ use Rattle.std.specs.List.{AllByRecursion, list_all}
 use Rattle.std.proofs.lemmas.Bool.{and_from}
 use Rattle.std.proofs.lemmas.Bool.Decides.{nat_tests}
 use Rattle.frag_tree.specs.declared.access.Access.{Access}
-use Rattle.frag_tree.specs.Identifiers.{is_identifier}
+use Rattle.rust_names.specs.Identifiers.{is_identifier}
 use Rattle.frag_tree.specs.Validity.{is_number, valid_access, valid_body, valid_element, valid_field, valid_type}
 use Rattle.block_form.specs.declared.child.Array.{Array}
 use Rattle.block_form.specs.declared.child.Child.{Child}

@@ -1,7 +1,7 @@
 -- What the types of children say: names are identifiers, and numbers are below 2^64. So the trees that are made of them are valid.
 use Rattle.std.specs.Prelude.{◌≡◌, ◌<◌, ◌^◌, true, Option, Some, None, ⊤}
 use Rattle.std.specs.List.{list_all}
-use Rattle.frag_tree.specs.Identifiers.{IsIdentifier}
+use Rattle.rust_names.specs.Identifiers.{IsIdentifier}
 use Rattle.frag_tree.specs.Validity.{valid_access, valid_field}
 use Rattle.block_form.specs.declared.child.Array.{Array}
 use Rattle.block_form.specs.declared.child.Child.{Child}

@@ -1,5 +1,5 @@
 ghost use Rattle.std.specs.Prelude.{◌≡◌, ◌≤◌, ◌<◌, ◌^◌, IfOk};
-ghost use Rattle.frag_tree.specs.Identifiers.{IsIdentifier};
+ghost use Rattle.rust_names.specs.Identifiers.{IsIdentifier};
 ghost use Rattle.block_form.specs.Children.{array_fits, child_end, element_of, field_of, held};
 ghost use Rattle.block_form.specs.Gaps.{gap_field, gap_name};
 ghost use Rattle.block_form.specs.Fields.{becomes_field};

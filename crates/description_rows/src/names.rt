@@ -44,9 +44,10 @@ fn a_path_grows_by_steps(rt: HostRuntime) -> Result<(), Fail> {
 }
 
 // Written names, with the accessor that each gives.
-const ACCESSORS: [(&str, &str); 7] = [
+const ACCESSORS: [(&str, &str); 8] = [
     ("type", "type_"),
     ("READ", "read_"),
+    ("at_bit", "at_bit_"),
     ("CH[%s]", "ch"),
     ("2ND", "_2nd"),
     ("_reserved0", "_reserved0_"),
@@ -79,9 +80,10 @@ fn keyword_names(rt: HostRuntime) -> Result<(), Fail> {
 }
 
 // Names of enumerated values, with the call that writes each and the one that asks for it.
-const VALUE_CALLS: [(&str, &str, &str); 2] = [
+const VALUE_CALLS: [(&str, &str, &str); 3] = [
     ("1/2 Div", "_1_2_div", "is_1_2_div"),
     ("Write", "write_", "is_write"),
+    ("At bit", "at_bit_", "is_at_bit"),
 ];
 
 fn calls_of(alloc: Global, written: &str) -> Result<(Name, Name), Fail> {

@@ -5,7 +5,7 @@ use Rattle.text_scan.specs.Steps.{◌>>=◌}
 use Rattle.text_scan.specs.Numbers.{value_of}
 use Rattle.frag_words.specs.Words.{Word}
 use Rattle.frag_words.specs.Readings.{Reading, among, fixed_words, list_until, then_read, truth_of as side_truth, word_is}
-use Rattle.frag_tree.specs.Identifiers.{is_identifier}
+use Rattle.rust_names.specs.Identifiers.{is_identifier}
 use Rattle.frag_tree.specs.Numerals.{decimal_word, hexadecimal_word, truth_word, width_word}
 use Rattle.frag_tree.specs.Registers.{kind_word}
 use Rattle.frag_tree.specs.Productions.{identifier, numeral_at, hexadecimal_reading, decimal_reading, width_reading, truth_reading, kind_reading, slot_of, slot_raw, slot_reading, element_of, element_raw, element_reading, type_of, type_raw, type_reading, field_of, field_raw, field_reading, body_of, body_raw, body_reading, index_reading, access_of, access_raw, access_reading}

@@ -4,7 +4,7 @@ use Rattle.std.specs.Prelude.{if◌then◌else◌}
 use Rattle.std.proofs.lemmas.Bool.{cases_Bool}
 use Rattle.text_scan.specs.Steps.{◌>>=◌}
 use Rattle.frag_words.specs.Words.{Word}
-use Rattle.frag_tree.specs.Identifiers.{is_identifier}
+use Rattle.rust_names.specs.Identifiers.{is_identifier}
 use Rattle.frag_parse.specs.declared.fault.Stop.{Stop}
 use Rattle.frag_parse.specs.declared.fault.Stop.TheVariants.{Unfit, Memory}
 use Rattle.frag_parse.specs.Reading.{Fails, expects, name_of, word_then}

@@ -5,7 +5,7 @@ use Rattle.text_scan.specs.Steps.{◌>>=◌}
 use Rattle.frag_words.specs.Words.{Word}
 use Rattle.frag_words.specs.Readings.{Reading, among, word_is}
 use Rattle.text_scan.specs.Numbers.{value_of}
-use Rattle.frag_tree.specs.Identifiers.{is_identifier}
+use Rattle.rust_names.specs.Identifiers.{is_identifier}
 use Rattle.frag_tree.specs.Numerals.{decimal_word, hexadecimal_word, truth_word, width_word}
 use Rattle.frag_tree.specs.Registers.{kind_word}
 use Rattle.frag_tree.specs.ModuleProductions.{modules_reading, read_blocks}

@@ -7,7 +7,8 @@ use Rattle.std.proofs.lemmas.Bool.{cases_Bool, and_parts}
 use Rattle.std.proofs.lemmas.Slice.Eq.{bytes_eq-Decides}
 use Rattle.text_scan.specs.Steps.{◌>>=◌}
 use Rattle.frag_words.specs.Words.{Word}
-use Rattle.frag_tree.specs.Identifiers.{is_identifier, is_keyword}
+use Rattle.rust_names.specs.Identifiers.{is_identifier}
+use Rattle.rust_names.specs.Keywords.{is_keyword}
 use Rattle.frag_tree.specs.declared.statement.Atom.{Atom}
 use Rattle.frag_tree.specs.declared.statement.Atom.TheVariants as atom
 use Rattle.frag_tree.specs.declared.statement.Link.{Link}

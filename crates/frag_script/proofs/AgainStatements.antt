@@ -6,7 +6,8 @@ use Rattle.std.specs.Str.{bytes_eq}
 use Rattle.std.proofs.lemmas.Bool.{cases_Bool, and_parts}
 use Rattle.std.proofs.lemmas.Bool.Decides.{nat_tests}
 use Rattle.frag_words.specs.Words.{Word}
-use Rattle.frag_tree.specs.Identifiers.{is_identifier, is_keyword}
+use Rattle.rust_names.specs.Identifiers.{is_identifier}
+use Rattle.rust_names.specs.Keywords.{is_keyword}
 use Rattle.frag_tree.specs.declared.statement.Link.{Link}
 use Rattle.frag_tree.specs.declared.statement.Place.{Place}
 use Rattle.frag_tree.specs.declared.statement.Call.{Call}

@@ -7,7 +7,7 @@ use Rattle.std.proofs.lemmas.Bool.{cases_Bool}
 use Rattle.std.proofs.lemmas.Slice.Eq.{bytes_eq-Decides}
 use Rattle.text_scan.proofs.Steps.{bind_some}
 use Rattle.frag_words.specs.Words.{Word}
-use Rattle.frag_tree.specs.Identifiers.{is_identifier}
+use Rattle.rust_names.specs.Identifiers.{is_identifier}
 use Rattle.frag_tree.specs.declared.statement.Link.{Link}
 use Rattle.frag_tree.specs.declared.statement.Place.{Place}
 use Rattle.frag_tree.specs.declared.statement.Call.{Call}

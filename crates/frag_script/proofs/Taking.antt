@@ -6,7 +6,7 @@ use Rattle.std.proofs.lemmas.Slice.Eq.{bytes_eq-Decides}
 use Rattle.text_scan.specs.Steps.{◌>>=◌}
 use Rattle.text_scan.proofs.Steps.{bind_some}
 use Rattle.frag_words.specs.Words.{Word}
-use Rattle.frag_tree.specs.Identifiers.{is_identifier}
+use Rattle.rust_names.specs.Identifiers.{is_identifier}
 use Rattle.frag_tree.specs.declared.statement.Call.{Call}
 use Rattle.frag_script.specs.declared.fixed.Fixed.{Fixed}
 use Rattle.frag_script.specs.declared.fixed.Fixed.TheVariants.{Bits, Dot, Bar, Opener, Closer, Semicolon}

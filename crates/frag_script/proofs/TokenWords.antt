@@ -13,7 +13,7 @@ use Rattle.text_scan.proofs.Steps.{cases_option}
 use Rattle.pac_base.specs.Names.{is_word_byte}
 use Rattle.pac_base.specs.declared.width.Width.TheVariants.{W8, W16, W32, W64}
 use Rattle.frag_words.specs.Words.{Word, words_in}
-use Rattle.frag_tree.specs.Identifiers.{is_identifier, is_start}
+use Rattle.rust_names.specs.Identifiers.{is_identifier, is_start}
 use Rattle.frag_script.specs.declared.fixed.Fixed.{Fixed}
 use Rattle.frag_script.specs.declared.fixed.Fixed.TheVariants.{Let, Say, Read, Write, WriteWithZero, Modify, Reset, Bits, As, ReaderName, WriterName, NoName, Truth, NumberType, Equals, Dot, Comma, Bar, Negation, Opener, Closer, Semicolon}
 use Rattle.frag_script.specs.FixedWords.{text_of}

@@ -3,7 +3,7 @@ use Rattle.std.specs.Prelude.{ℕ, List, [], ◌∷◌, ◌++◌, Bool, true, fa
 use Rattle.std.specs.List.{list_all}
 use Rattle.std.specs.Str.{bytes_eq}
 use Rattle.frag_words.specs.Words.{Word}
-use Rattle.frag_tree.specs.Identifiers.{is_identifier}
+use Rattle.rust_names.specs.Identifiers.{is_identifier}
 use Rattle.frag_tree.specs.declared.statement.Atom.{Atom}
 use Rattle.frag_tree.specs.declared.statement.Atom.TheVariants as atom
 use Rattle.frag_tree.specs.declared.statement.Link.{Link}

@@ -7,22 +7,15 @@ use Rattle.frag_tree.specs.declared.krate.Version.TheVariants.{One, Two}
 use Rattle.frag_tree.specs.declared.register.BitKind.{BitKind}
 use Rattle.frag_tree.specs.declared.register.BitKind.TheVariants as kind
 use Rattle.frag_tree.specs.declared.register.TruthCall.{TruthCall}
+use Rattle.rust_names.specs.PreludeNames.{first_names, prelude_names}
 
--- the names that the prelude of either version takes
-abbrev pub common_names : List (List ℕ)
-common_names =
-    codes "at" ∷ codes "at_index" ∷ codes "bit" ∷ codes "bit_is_clear" ∷ codes "bit_is_set" ∷
-    codes "bits" ∷ codes "clear_bit" ∷ codes "clear_bit_by_one" ∷ codes "generic" ∷
-    codes "modify" ∷ codes "new" ∷ codes "read" ∷ codes "reset" ∷ codes "set_bit" ∷
-    codes "set_bit_by_zero" ∷ codes "toggle_bit" ∷ codes "write" ∷ codes "write_with_zero" ∷ []
-
--- the names that the prelude of a version takes: that of version 2 has one more
-abbrev pub prelude_names : Version → List (List ℕ)
-prelude_names One = common_names
-prelude_names Two = codes "at_bit" ∷ common_names
+-- the names that the prelude of a version takes
+abbrev pub names_taken : Version → List (List ℕ)
+names_taken One = first_names
+names_taken Two = prelude_names
 
 unfoldable pub is_prelude_name : Version → List ℕ → Bool
-is_prelude_name version name = list_any (bytes_eq name) (prelude_names version)
+is_prelude_name version name = list_any (bytes_eq name) (names_taken version)
 
 abbrev pub truth_call : List ℕ → Bool → TruthCall
 truth_call name value = record { name = name; value = value }

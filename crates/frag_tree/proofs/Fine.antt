@@ -46,7 +46,8 @@ use Rattle.frag_tree.specs.declared.register.WriteForm.TheVariants as write
 use Rattle.frag_tree.specs.declared.register.Writer.{Writer}
 use Rattle.frag_tree.specs.Blocks.{element_pieces, type_pieces, array_pieces, field_line, body_pieces, access_line, struct_lines, accessor_lines, opening_lines, modules_lines}
 use Rattle.frag_tree.specs.Crates.{slot_line, slots_lines, top_lines, version_lines, crate_lines, printed, crate_words}
-use Rattle.frag_tree.specs.Identifiers.{is_identifier, is_keyword, is_start}
+use Rattle.rust_names.specs.Identifiers.{is_identifier, is_start}
+use Rattle.rust_names.specs.Keywords.{is_keyword}
 use Rattle.frag_tree.specs.Numerals.{hexadecimal_word, decimal_word, width_word, truth_word, decimal}
 use Rattle.frag_tree.specs.Registers.{kind_word, writable_lines, reset_line, marker_line, reader_line, writer_line, spot_pieces, readable_lines, readers_lines, writers_lines, truth_call_line, number_call_line, opening_pieces, values_lines, part_lines, register_lines}
 use Rattle.frag_tree.specs.Trees.{BlockHead, BlockTree, CrateTree, Modules, ended, register, block, spot_read, spot_written}

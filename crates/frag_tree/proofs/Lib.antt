@@ -1,4 +1,3 @@
-pub mod Lookup
 pub mod Printed
 pub mod Trees
 pub mod Modules

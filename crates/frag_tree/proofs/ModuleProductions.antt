@@ -17,7 +17,7 @@ use Rattle.frag_tree.specs.declared.access.Access.{Access}
 use Rattle.frag_tree.specs.declared.block.StructField.{StructField}
 use Rattle.frag_tree.specs.declared.register.RegisterModule.{RegisterModule}
 use Rattle.frag_tree.specs.Blocks.{opening_lines, modules_lines, block_lines, field_line, access_line, accessor_lines}
-use Rattle.frag_tree.specs.Identifiers.{is_identifier}
+use Rattle.rust_names.specs.Identifiers.{is_identifier}
 use Rattle.frag_tree.specs.ModuleProductions.{head_words, head_of, head_parts, fields_reading, head_raw, head_reading, with_register, with_block, with_end, read_modules, modules_words, modules_reading, block_words, block_of, block_parts, block_reading, module_words, valid_module, module_of, module_side, module_reading}
 use Rattle.frag_tree.specs.Productions.{identifier, field_reading, access_reading}
 use Rattle.frag_tree.specs.RegisterProductions.{calls_until, register_words, register_reading}

@@ -25,7 +25,7 @@ use Rattle.frag_tree.specs.declared.krate.Slot.{Slot}
 use Rattle.frag_tree.specs.declared.register.BitKind.{BitKind}
 use Rattle.frag_tree.specs.declared.register.BitKind.TheVariants as kind
 use Rattle.frag_tree.specs.Blocks.{body_pieces, element_pieces, type_pieces}
-use Rattle.frag_tree.specs.Identifiers.{is_identifier}
+use Rattle.rust_names.specs.Identifiers.{is_identifier}
 use Rattle.frag_tree.specs.Numerals.{hexadecimal_word, decimal_word, width_word, truth_word}
 use Rattle.frag_tree.specs.Productions.{identifier, numeral_at, hexadecimal_reading, decimal_reading, width_reading, truth_reading, kind_reading, slot_words, slot_of, slot_parts, slot_raw, slot_reading, element_words, element_of, element_parts, element_raw, element_reading, type_words, type_of, type_parts, type_raw, type_reading, field_words, field_of, field_parts, field_raw, field_reading, body_words, body_of, body_parts, body_raw, body_reading, index_reading, access_words, access_of, access_parts, access_raw, access_reading}
 use Rattle.frag_tree.specs.Registers.{kind_word}

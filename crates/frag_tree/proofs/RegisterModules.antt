@@ -23,7 +23,7 @@ use Rattle.frag_tree.specs.declared.register.Values.{Values}
 use Rattle.frag_tree.specs.declared.register.Values.TheVariants as values
 use Rattle.frag_tree.specs.declared.register.Writable.{Writable}
 use Rattle.frag_tree.specs.declared.register.Writer.{Writer}
-use Rattle.frag_tree.specs.Identifiers.{is_identifier}
+use Rattle.rust_names.specs.Identifiers.{is_identifier}
 use Rattle.frag_tree.specs.Numerals.{width_word}
 use Rattle.frag_tree.specs.Productions.{identifier, width_reading}
 use Rattle.frag_tree.specs.RegisterProductions.{writable_reading, reset_words, reset_reading, marker_reading, reader_reading, writer_reading, calls_until, values_words, values_reading, begins_impl, readers_reading, writers_reading, values_part, writers_part, readers_part, markers_part, reset_part, writable_part, readable_part, RegisterParts, register_raw, register_of, register_parts, register_words, register_reading}

@@ -27,7 +27,7 @@ use Rattle.frag_tree.specs.declared.register.Writable.{Writable}
 use Rattle.frag_tree.specs.declared.register.WriteForm.{WriteForm}
 use Rattle.frag_tree.specs.declared.register.WriteForm.TheVariants as write
 use Rattle.frag_tree.specs.declared.register.Writer.{Writer}
-use Rattle.frag_tree.specs.Identifiers.{is_identifier}
+use Rattle.rust_names.specs.Identifiers.{is_identifier}
 use Rattle.frag_tree.specs.Productions.{identifier, hexadecimal_reading, decimal_reading, width_reading, truth_reading, kind_reading}
 use Rattle.frag_tree.specs.RegisterProductions.{constant_of, constant_parts, constant_reading, writable_words, writable_of, writable_parts, writable_raw, writable_reading, reset_words, reset_raw, reset_reading, marker_reading, at_bit_raw, at_bit_reading, indexed_of, indexed_parts, fixed_part, place_reading, spot_reading, bit_reader_raw, field_reader_raw, cast_words, reader_words, ReaderParts, reader_of, read_parts, reader_parts, reader_indexed, reader_type, reader_raw_of, reader_begins, reader_raw, reader_reading, field_writer_raw, bit_writer_raw, again_words, writer_words, WriterParts, writer_of, write_parts, writer_parts, writer_indexed, writer_type, writer_raw_of, writer_begins, writer_raw, writer_reading, truth_of, truth_parts, truth_raw, truth_test, truth_write, number_of, number_parts, number_raw, number_test, number_write}
 use Rattle.frag_tree.specs.Registers.{truth_test_line, truth_write_line, number_test_line, number_write_line}

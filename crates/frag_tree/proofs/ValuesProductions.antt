@@ -17,7 +17,7 @@ use Rattle.frag_tree.specs.declared.register.NumberCall.{NumberCall}
 use Rattle.frag_tree.specs.declared.register.TruthCall.{TruthCall}
 use Rattle.frag_tree.specs.declared.register.Values.{Values}
 use Rattle.frag_tree.specs.declared.register.Values.TheVariants as values
-use Rattle.frag_tree.specs.Identifiers.{is_identifier}
+use Rattle.rust_names.specs.Identifiers.{is_identifier}
 use Rattle.frag_tree.specs.Productions.{identifier, decimal_reading, width_reading, kind_reading}
 use Rattle.frag_tree.specs.RegisterProductions.{truth_test, truth_write, number_test, number_write, calls_until, bit_reading_raw, field_reading_raw, bit_writing_raw, field_writing_raw, ValuesParts, values_words, values_of, values_parts, values_raw, values_reading}
 use Rattle.frag_tree.specs.Registers.{opening_pieces, truth_call_line, number_call_line}

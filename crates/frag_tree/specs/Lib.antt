@@ -1,4 +1,3 @@
-pub mod Identifiers
 pub mod EventLists
 pub mod Trees
 pub mod Numerals

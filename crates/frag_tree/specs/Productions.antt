@@ -24,7 +24,7 @@ use Rattle.frag_tree.specs.declared.register.BitKind.{BitKind}
 use Rattle.frag_tree.specs.declared.register.BitKind.TheVariants as kind
 use Rattle.frag_tree.specs.Blocks.{access_line, body_pieces, element_pieces, field_line, type_pieces}
 use Rattle.frag_tree.specs.Crates.{slot_line}
-use Rattle.frag_tree.specs.Identifiers.{is_identifier}
+use Rattle.rust_names.specs.Identifiers.{is_identifier}
 use Rattle.frag_tree.specs.Numerals.{hexadecimal_word, decimal_word, width_word, truth_word}
 use Rattle.frag_tree.specs.Registers.{kind_word}
 use Rattle.frag_tree.specs.Validity.{is_number, valid_slot, valid_element, valid_type, valid_field, valid_body, valid_access}

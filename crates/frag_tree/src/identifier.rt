@@ -1,14 +1,9 @@
-ghost use Rattle.std.specs.Prelude.{◌≡◌, ◌↔◌, IfOk, IsErrOf, IsTrue, length};
-ghost use Rattle.std.specs.List.{list_all, list_any};
-ghost use Rattle.std.specs.Str.{bytes_eq};
-ghost use Rattle.case_table.specs.Entries.{entries_of, words_of};
-ghost use Rattle.case_table.specs.Rising.{rises};
-ghost use Rattle.frag_tree.specs.Identifiers.{IsIdentifier, is_identifier, is_keyword, is_start};
+ghost use Rattle.std.specs.Prelude.{◌≡◌, ◌↔◌, IfOk, IsErrOf};
 ghost use Rattle.frag_tree.specs.declared.identifier.IdentifierFault.TheVariants.{Memory};
-ghost use Rattle.pac_base.specs.Names.{is_word_byte};
+ghost use Rattle.rust_names.specs.Identifiers.{IsIdentifier};
 
-use case_table::{CaseRow, CaseTable};
 use pac_base::NoMemory;
+use rust_names::is_identifier;
 use std::alloc::{AllocError, Global};
 use std::marker::Model;
 use thiserror::Error;
@@ -22,7 +17,7 @@ pub struct Identifier {
 
 impl Model for Identifier {
     ghost use Rattle.std.specs.Prelude.{List, ℕ};
-    ghost use Rattle.frag_tree.specs.Identifiers.{IsIdentifier};
+    ghost use Rattle.rust_names.specs.Identifiers.{IsIdentifier};
 
     ghost Value = { List ℕ };
 
@@ -102,67 +97,4 @@ impl Eq for Identifier {
     ghost use Rattle.std.proofs.Common.{rules};
 
     ghost laws = { Prim.search (comparing, rules) };
-}
-
-/// Whether the bytes are an identifier.
-pub fn is_identifier(bytes: &[u8]) -> bool
-    ensures { IsTrue result ↔ IsIdentifier bytes.now }
-{
-    match bytes {
-        [first, rest @ ..] => {
-            is_start(*first) && is_word(rest) && bytes != b"_".as_slice() && !is_keyword(bytes)
-        }
-        [] => false,
-    }
-}
-
-/// Whether an identifier may begin with the byte.
-fn is_start(byte: u8) -> bool
-    ensures { result ≡ is_start byte }
-{
-    matches!(byte, b'A'..=b'Z' | b'a'..=b'z' | b'_')
-}
-
-/// Whether a byte is a letter, a digit or `_`.
-fn is_word_byte(byte: u8) -> bool
-    ensures { result ≡ is_word_byte byte }
-{
-    matches!(byte, b'A'..=b'Z' | b'a'..=b'z' | b'0'..=b'9' | b'_')
-}
-
-/// Whether all bytes are letters, digits or `_`.
-fn is_word(bytes: &[u8]) -> bool
-    ensures { result ≡ list_all is_word_byte bytes.now }
-{
-    bytes.iter().all(|byte| is_word_byte(*byte))
-}
-
-// Rows of a table of words, which stand in rising order.
-macro_rules! rows {
-    ($($word:literal),* $(,)?) => { [$(CaseRow { word: $word, code: 0 }),*] };
-}
-
-/// Whether the word is a keyword of Rust, or `Self`.
-#[tactic(auto, unfolding(crate::specs::Identifiers::is_keyword))]
-fn is_keyword(word: &[u8]) -> bool
-    ensures { result ≡ is_keyword word.now }
-{
-    let rows = rows![
-        "Self", "abstract", "as", "async", "await", "become", "box", "break", "const", "continue",
-        "crate", "do", "dyn", "else", "enum", "extern", "false", "final", "fn", "for", "gen", "if",
-        "impl", "in", "let", "loop", "macro", "match", "mod", "move", "mut", "override", "priv",
-        "pub", "ref", "return", "self", "static", "struct", "super", "trait", "true", "try",
-        "type", "typeof", "unsafe", "unsized", "use", "virtual", "where", "while", "yield",
-    ];
-    is_among::<52>(&rows, word)
-}
-
-/// Whether the text is a word of the rows, which rise.
-fn is_among<const N: usize>(rows: &[CaseRow], text: &[u8]) -> bool
-    requires long { length rows.now ≡ N }
-    requires rising { IsTrue (rises (words_of (entries_of rows.now))) }
-    ensures { result ≡ list_any (bytes_eq text.now) (words_of (entries_of rows.now)) }
-{
-    let table = CaseTable::<N>::of_rising(rows);
-    table.find(text).is_some()
 }

@@ -14,7 +14,8 @@ use Rattle.svd_rows.specs.LookUps.{inside, top_key, child_step, keys_of, childre
 use Rattle.svd_rows.specs.Paths.{begins}
 use Rattle.svd_rows.specs.RowEdits.{exchanged}
 use Rattle.svd_rows.specs.Rows.{Row, own, under, forest_rows, rows, is_element}
-use Rattle.svd_values.specs.Reserved.{is_keyword, is_prelude_name}
+use Rattle.rust_names.specs.Keywords.{is_keyword}
+use Rattle.rust_names.specs.PreludeNames.{is_prelude_name}
 
 abbrev step : Kind → List ℕ → Step
 step kind name = record { kind = kind; name = name; number = 0 }

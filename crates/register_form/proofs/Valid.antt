@@ -6,7 +6,7 @@ use Rattle.std.proofs.Math.Nat.{pow-le-pow_right}
 use Rattle.std.proofs.lemmas.Bool.{and_from}
 use Rattle.frag_tree.specs.declared.krate.Version.{Version}
 use Rattle.frag_tree.specs.declared.register.NumberCall.{NumberCall}
-use Rattle.frag_tree.specs.Identifiers.{is_identifier}
+use Rattle.rust_names.specs.Identifiers.{is_identifier}
 use Rattle.frag_tree.specs.Trees.{takes_index}
 use Rattle.frag_tree.specs.Validity.{is_number, stands_in, valid_number, valid_option, valid_reader, valid_register, valid_spot, valid_truth, valid_values, valid_writable, valid_writer}
 use Rattle.frag_sem.specs.PreludeWords.{ones}

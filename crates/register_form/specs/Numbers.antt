@@ -4,7 +4,7 @@ use Rattle.std.specs.List.{AllByRecursion}
 use Rattle.frag_tree.specs.declared.krate.Version.{Version}
 use Rattle.frag_tree.specs.declared.register.NumberCall.{NumberCall}
 use Rattle.frag_tree.specs.declared.register.RegisterModule.{RegisterModule}
-use Rattle.frag_tree.specs.Identifiers.{IsIdentifier}
+use Rattle.rust_names.specs.Identifiers.{IsIdentifier}
 use Rattle.frag_tree.specs.Trees.{takes_index}
 use Rattle.frag_tree.specs.Validity.{valid_register}
 use Rattle.register_form.specs.declared.register.Field.{Field}

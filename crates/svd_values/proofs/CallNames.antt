@@ -7,7 +7,7 @@ use Rattle.std.specs.Str.{bytes_eq, str_to_ascii_lowercase}
 use Rattle.std.proofs.lemmas.Bool.Decides.{nat_tests}
 use Rattle.std.proofs.lemmas.Slice.Eq.{bytes_eq-Decides}
 use Rattle.pac_base.specs.Names.{IsName, IsWord, IsListName, IsArrayName, is_word_byte, list_mark, array_mark}
-use Rattle.svd_values.specs.Reserved.{keywords, is_keyword}
+use Rattle.rust_names.specs.Keywords.{keywords, is_keyword}
 use Rattle.svd_values.specs.AccessorNames.{without_array_mark, digit_guard, guarded, taken_guard, is_taken_call, is_taken_slot, call_name, slot_name_of, plain_byte, plain_lower, is_call_name, IsPlainName}
 use Rattle.svd_values.proofs.Fronts.{both_true}
 

@@ -10,50 +10,14 @@ use Rattle.std.proofs.lemmas.Slice.Eq.{bytes_eq-Decides}
 use Rattle.pac_base.specs.Names.{IsWord, is_word_byte}
 use Rattle.svd_values.specs.AccessorNames.{call_name, guarded, is_call_name, is_taken_call, is_taken_slot, plain_lower, taken_guard, without_array_mark}
 use Rattle.std.specs.Str.{str_to_ascii_lowercase}
-use Rattle.svd_values.specs.Identifiers.{AccessorsAreCallNames, IsCallName, IsIdentifier, IsSomeWord, MarkersAreIdentifiers, MarkersTell, SlotsAreIdentifiers, TestsAreCallNames, VariantsAreCallNames, gap_name, is_start}
-use Rattle.svd_values.specs.Reserved.{is_keyword, is_prelude_name, keywords, prelude_names}
+use Rattle.svd_values.specs.Identifiers.{AccessorsAreCallNames, IsCallName, IsSomeWord, MarkersAreIdentifiers, MarkersTell, SlotsAreIdentifiers, TestsAreCallNames, VariantsAreCallNames, gap_name}
+use Rattle.rust_names.specs.Identifiers.{IsIdentifier, is_start}
+use Rattle.rust_names.specs.Keywords.{is_keyword}
+use Rattle.rust_names.specs.PreludeNames.{is_prelude_name}
+use Rattle.rust_names.proofs.LastBytes.{ends_in, last_behind}
+use Rattle.rust_names.proofs.TakenNames.{ends_low, no_marker}
 use Rattle.svd_values.proofs.CallNames.{lower_word, plain_lower_word, some_lower, word_append}
 use Rattle.svd_values.proofs.Fronts.{both_true}
-
--- ---- the last byte
-
-ends_in : ℕ → List ℕ → Bool
-ends_in last [] = false
-ends_in last (byte ∷ []) = byte == last
-ends_in last (byte ∷ next ∷ others) = ends_in last (next ∷ others)
-
-same_byte : (byte : ℕ) → (byte == byte) ≡ true
-same_byte byte = grind (arith, nat_tests)
-
-last_behind : (last : ℕ) (front : List ℕ) → ends_in last (front ++ last ∷ []) ≡ true
-unfolding ends_in
-last_behind last [] = same_byte last
-last_behind last (byte ∷ []) = same_byte last
-last_behind last (byte ∷ next ∷ front) = last_behind last (next ∷ front)
-
--- it is none of the words, of which none ends so
-none_ends : (last : ℕ) (front : List ℕ) (words : List (List ℕ)) → list_any (ends_in last) words ≡ false → list_any (bytes_eq (front ++ last ∷ [])) words ≡ false
-none_ends last front [] none = refl
-none_ends last front (word ∷ words) none =
-    let parts = or_parts (ends_in last word) (list_any (ends_in last) words) none in
-    by (bytes_eq (front ++ last ∷ []) word) refl parts.0 (none_ends last front words parts.1)
-  where
-    by : (b : Bool) → bytes_eq (front ++ last ∷ []) word ≡ b → ends_in last word ≡ false → list_any (bytes_eq (front ++ last ∷ [])) words ≡ false → (b || list_any (bytes_eq (front ++ last ∷ [])) words) ≡ false
-    by true e apart more = absurd (false≢true (sym apart ∙ (ap (ends_in last) (sym ((bytes_eq-Decides (front ++ last ∷ []) word).0 e)) ∙ last_behind last front)))
-    by false e apart more = more
-
--- no keyword ends in `_` or `F`, and no name of the prelude in `_`
-no_keyword_low : (front : List ℕ) → is_keyword (front ++ 95 ∷ []) ≡ false
-unfolding is_keyword ends_in
-no_keyword_low front = none_ends 95 front keywords refl
-
-no_keyword_f : (front : List ℕ) → is_keyword (front ++ 70 ∷ []) ≡ false
-unfolding is_keyword ends_in
-no_keyword_f front = none_ends 70 front keywords refl
-
-no_prelude_low : (front : List ℕ) → is_prelude_name (front ++ 95 ∷ []) ≡ false
-unfolding is_prelude_name ends_in
-no_prelude_low front = none_ends 95 front prelude_names refl
 
 -- ---- a name with its guard
 
@@ -185,8 +149,8 @@ call_is lower some = by (is_taken_call (guarded lower)) refl
 
     by : (b : Bool) → is_taken_call (guarded lower) ≡ b → IsCallName (guarded lower ++ taken_guard b)
     by true e = record {
-      identifier = identifier (guarded lower ++ 95 ∷ []) (more_behind (guarded lower) (95 ∷ []) begins refl) (not_low (guarded lower) 95 begins) (no_keyword_low (guarded lower));
-      free = no_prelude_low (guarded lower);
+      identifier = identifier (guarded lower ++ 95 ∷ []) (more_behind (guarded lower) (95 ∷ []) begins refl) (not_low (guarded lower) 95 begins) (ends_low (guarded lower)).0;
+      free = (ends_low (guarded lower)).1;
       no_gap = no_gap_low (guarded lower);
     }
     by false e =
@@ -223,7 +187,7 @@ slots_are name some = by (is_taken_slot (guarded name)) refl
     begins = starts name some
 
     by : (b : Bool) → is_taken_slot (guarded name) ≡ b → IsIdentifier (guarded name ++ taken_guard b)
-    by true e = identifier (guarded name ++ 95 ∷ []) (more_behind (guarded name) (95 ∷ []) begins refl) (not_low (guarded name) 95 begins) (no_keyword_low (guarded name))
+    by true e = identifier (guarded name ++ 95 ∷ []) (more_behind (guarded name) (95 ∷ []) begins refl) (not_low (guarded name) 95 begins) (ends_low (guarded name)).0
     by false e =
         let parts = or_parts (is_keyword (guarded name)) (bytes_eq (guarded name) (codes "_")) e in
         subst IsIdentifier (sym (append-nil (guarded name))) (identifier (guarded name) begins parts.1 parts.0)
@@ -232,7 +196,7 @@ pub markers_are : MarkersAreIdentifiers
 markers_are name some =
     let begins = more_behind (guarded name) (95 ∷ []) (starts name some) refl in
     subst IsIdentifier (append_assoc (guarded name) (95 ∷ []) (70 ∷ []))
-    (identifier ((guarded name ++ 95 ∷ []) ++ 70 ∷ []) (more_behind (guarded name ++ 95 ∷ []) (70 ∷ []) begins refl) (not_low (guarded name ++ 95 ∷ []) 70 begins) (no_keyword_f (guarded name ++ 95 ∷ [])))
+    (identifier ((guarded name ++ 95 ∷ []) ++ 70 ∷ []) (more_behind (guarded name ++ 95 ∷ []) (70 ∷ []) begins refl) (not_low (guarded name ++ 95 ∷ []) 70 begins) (no_marker (guarded name ++ 95 ∷ [])))
 
 -- ---- equal names
 

@@ -3,7 +3,6 @@ pub mod Fronts
 pub mod Givens
 pub mod Identifiers
 pub mod IndexRanges
-pub mod Lookup
 pub mod Meanings
 pub mod Ranges
 pub mod Reading

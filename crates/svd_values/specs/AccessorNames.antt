@@ -5,7 +5,8 @@ use Rattle.std.specs.Char.{is_ascii_digit}
 use Rattle.std.specs.Str.{bytes_eq, str_to_ascii_lowercase}
 use Rattle.std.specs.List.{starts_with}
 use Rattle.pac_base.specs.Names.{IsWord, IsListName, is_word_byte, array_mark}
-use Rattle.svd_values.specs.Reserved.{is_keyword, is_prelude_name}
+use Rattle.rust_names.specs.Keywords.{is_keyword}
+use Rattle.rust_names.specs.PreludeNames.{is_prelude_name}
 
 -- the name without `[%s]` at its end
 abbrev pub without_array_mark : List ℕ → List ℕ

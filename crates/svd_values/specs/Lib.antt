@@ -6,5 +6,4 @@ pub mod Meanings
 pub mod Numbers
 pub mod Places
 pub mod Readers
-pub mod Reserved
 pub mod SchemaWords

@@ -3,8 +3,8 @@ ghost use Rattle.std.specs.Str.{str_to_ascii_lowercase};
 ghost use Rattle.pac_base.specs.Names.{IsName, is_word_byte};
 ghost use Rattle.svd_values.specs.AccessorNames.{without_array_mark, digit_guard, guarded, taken_guard, is_taken_call, is_taken_slot, call_name, accessor_name, slot_name_of, plain_byte, plain_lower, variant_call_name, is_call_name, IsPlainName};
 
-use crate::reserved::{is_keyword, is_prelude_name};
 use pac_base::{Name, NameFault, NoMemory, Text};
+use rust_names::{is_keyword, is_prelude_name};
 use std::alloc::Global;
 
 /// The accessor of a peripheral's, cluster's, register's or field's name: the name without `[%s]`,

@@ -8,7 +8,6 @@ mod index;
 mod meaning;
 mod numeral;
 mod place;
-mod reserved;
 mod schema_word;
 mod table;
 

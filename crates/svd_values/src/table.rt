@@ -1,6 +1,5 @@
-ghost use Rattle.std.specs.Prelude.{◌≡◌, IsTrue, length, is_some, slice_get, option_and_then};
+ghost use Rattle.std.specs.Prelude.{◌≡◌, IsTrue, length, slice_get, option_and_then};
 ghost use Rattle.std.specs.Map.{lookup};
-ghost use Rattle.std.specs.List.{list_any};
 ghost use Rattle.std.specs.Str.{bytes_eq};
 ghost use Rattle.case_table.specs.Entries.{entries_of, words_of};
 ghost use Rattle.case_table.specs.Rising.{rises};
@@ -11,8 +10,7 @@ use case_table::{CaseRow, CaseTable};
 pub(crate) fn code_of<const N: usize>(rows: &[CaseRow], text: &[u8]) -> Option<u16>
     requires long { length rows.now ≡ N }
     requires rising { IsTrue (rises (words_of (entries_of rows.now))) }
-    ensures code { result ≡ lookup (bytes_eq text.now) (entries_of rows.now) }
-    ensures among { is_some result ≡ list_any (bytes_eq text.now) (words_of (entries_of rows.now)) }
+    ensures { result ≡ lookup (bytes_eq text.now) (entries_of rows.now) }
 {
     let table = CaseTable::<N>::of_rising(rows);
     table.find(text)

@@ -28,7 +28,8 @@ use Rattle.svd_rows.specs.LookUps.{child_step, children_of, ends_with, inside, k
 use Rattle.svd_rows.specs.Paths.{begins}
 use Rattle.svd_rows.specs.RowEdits.{exchanged}
 use Rattle.svd_rows.specs.Rows.{Row, forest_rows, is_element, own, rows, under}
-use Rattle.svd_values.specs.Reserved.{is_keyword, is_prelude_name}
+use Rattle.rust_names.specs.Keywords.{is_keyword}
+use Rattle.rust_names.specs.PreludeNames.{is_prelude_name}
 use Rattle.table_sem.specs.Methods.{read_methods, write_methods}
 use Rattle.table_sem.specs.Names.{named_visits, names_of}
 use Rattle.table_sem.specs.RowActs.{row_acts}

@@ -1,5 +1,5 @@
 use Rattle.std.proofs.Common.{IfOk, ◌≡◌, ◌∙◌, ◌++◌, subst, sym}
-use Rattle.frag_tree.specs.Identifiers.{IsIdentifier}
+use Rattle.rust_names.specs.Identifiers.{IsIdentifier}
 use Rattle.block_form.specs.Gaps.{gap_name}
 use Rattle.block_form.proofs.GapNames.{gap-identifier}
 use Rattle.block_form.proofs.field.gap_name.Goals as goal

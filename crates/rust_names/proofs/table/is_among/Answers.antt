@@ -3,8 +3,8 @@ use Rattle.std.specs.Prelude.{is_some}
 use Rattle.std.specs.Map.{lookup}
 use Rattle.std.specs.Str.{bytes_eq}
 use Rattle.case_table.specs.Entries.{entries_of}
-use Rattle.frag_tree.proofs.Lookup.{some_among}
-use Rattle.frag_tree.proofs.identifier.is_among.Goals as goal
+use Rattle.rust_names.proofs.Lookup.{some_among}
+use Rattle.rust_names.proofs.table.is_among.Goals as goal
 
 pub returns : goal.returns
 returns g c =

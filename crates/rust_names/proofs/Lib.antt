@@ -1,0 +1,3 @@
+pub mod LastBytes
+mod Lookup
+pub mod TakenNames

@@ -1,0 +1,4 @@
+pub mod Keywords
+pub mod PreludeNames
+pub mod Identifiers
+pub mod Laws
