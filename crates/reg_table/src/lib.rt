@@ -13,4 +13,3 @@ mod table_rows;
 pub use listing::list_text;
 pub use row::{Call, Calls, FieldDim, FieldRow, FieldRows, Row, RowPath, Table};
 pub use table_rows::table;
-
