@@ -11,7 +11,7 @@ use Rattle.svd_model.specs.Stating.{value_of, start_of, stated_base, stated_dim,
 use Rattle.svd_model.specs.Steps.{Step, Kind, peripheral}
 use Rattle.svd_rows.specs.Forest.{Forest, leaf, node}
 use Rattle.svd_values.specs.AccessorNames.{slot_name_of}
-use Rattle.svd_values.specs.Identifiers.{IsIdentifier}
+use Rattle.rust_names.specs.Identifiers.{IsIdentifier}
 
 -- the address of a peripheral's first byte
 abbrev pub base_of : List Key → ℕ

@@ -7,8 +7,9 @@ use Rattle.svd_model.specs.Keys.{Key}
 use Rattle.svd_model.specs.Steps.{Step}
 use Rattle.svd_rows.specs.Forest.{Forest, steps}
 use Rattle.svd_values.specs.AccessorNames.{accessor_name, slot_name_of}
-use Rattle.svd_values.specs.Identifiers.{IsIdentifier, gap_name, marker_name}
-use Rattle.svd_values.specs.Reserved.{is_prelude_name}
+use Rattle.svd_values.specs.Identifiers.{gap_name, marker_name}
+use Rattle.rust_names.specs.Identifiers.{IsIdentifier}
+use Rattle.rust_names.specs.PreludeNames.{is_prelude_name}
 
 -- ---- one element
 

@@ -14,8 +14,9 @@ use Rattle.svd_model.specs.Properties.{size_at}
 use Rattle.svd_model.specs.Steps.{Step}
 use Rattle.svd_rows.specs.Forest.{Forest, steps}
 use Rattle.svd_rows.specs.Rows.{rows}
-use Rattle.svd_values.specs.Identifiers.{IsCallName, IsIdentifier, marker_name}
-use Rattle.svd_values.specs.Reserved.{is_prelude_name}
+use Rattle.svd_values.specs.Identifiers.{IsCallName, marker_name}
+use Rattle.rust_names.specs.Identifiers.{IsIdentifier}
+use Rattle.rust_names.specs.PreludeNames.{is_prelude_name}
 use Rattle.table_sem.specs.RowFacts.{RowFits}
 use Rattle.table_sem.specs.TableSurface.{no_path}
 
