@@ -6,7 +6,7 @@ use Rattle.svd_model.specs.Facts.{element_limit}
 use Rattle.svd_model.specs.Keys.{Key}
 use Rattle.svd_model.specs.Steps.{Step}
 use Rattle.svd_rows.specs.Forest.{Forest, steps}
-use Rattle.svd_values.specs.AccessorNames.{accessor_name, slot_name_of}
+use Rattle.svd_values.specs.AccessorNames.{accessor_name, slot_name_of, without_array_mark}
 use Rattle.svd_values.specs.Identifiers.{gap_name, marker_name}
 use Rattle.rust_names.specs.Identifiers.{IsIdentifier}
 use Rattle.rust_names.specs.PreludeNames.{is_prelude_name}
@@ -25,9 +25,13 @@ pub record HasAccessor (name : List ℕ) : Type 0 where
 abbrev pub accessor_names : Forest Step Key → List (List ℕ)
 accessor_names siblings = map (λ step. accessor_name step.name) (steps siblings)
 
+-- the marker of a field
+abbrev pub marker_of : Step → List ℕ
+marker_of step = marker_name (without_array_mark step.name)
+
 -- the markers of fields, and the slots of peripherals
 abbrev pub marker_names : Forest Step Key → List (List ℕ)
-marker_names fields = map (λ step. marker_name step.name) (steps fields)
+marker_names fields = map marker_of (steps fields)
 
 abbrev pub slot_names : Forest Step Key → List (List ℕ)
 slot_names peripherals = map (λ step. slot_name_of step.name) (steps peripherals)

@@ -2,7 +2,7 @@
 use Rattle.std.specs.Prelude.{ℕ, ◌≡◌, ◌≢◌, ◌≤◌, true, false, List, [], map, None}
 use Rattle.std.specs.List.{AllByRecursion}
 use Rattle.checked_tree.specs.Kinds.{AreFields}
-use Rattle.checked_tree.specs.Names.{AreSiblings, HasAccessor, accessor_names, marker_names}
+use Rattle.checked_tree.specs.Names.{AreSiblings, HasAccessor, accessor_names, marker_names, marker_of}
 use Rattle.frag_sem.specs.Modules.{are_distinct_names}
 use Rattle.reg_table.specs.Registers.{register_row}
 use Rattle.reg_table.specs.declared.row.Call.{Call}
@@ -14,7 +14,7 @@ use Rattle.svd_model.specs.Properties.{size_at}
 use Rattle.svd_model.specs.Steps.{Step}
 use Rattle.svd_rows.specs.Forest.{Forest, steps}
 use Rattle.svd_rows.specs.Rows.{rows}
-use Rattle.svd_values.specs.Identifiers.{IsCallName, marker_name}
+use Rattle.svd_values.specs.Identifiers.{IsCallName}
 use Rattle.rust_names.specs.Identifiers.{IsIdentifier}
 use Rattle.rust_names.specs.PreludeNames.{is_prelude_name}
 use Rattle.table_sem.specs.RowFacts.{RowFits}
@@ -41,7 +41,7 @@ pub record FieldIsNamed (field : FieldRow) : Type 0 where
 -- its accessor, and its marker, are names
 pub record FieldHasNames (step : Step) : Type 0 where
   pub accessor : HasAccessor step.name
-  pub marker : step.name ≢ [] → IsIdentifier (marker_name step.name)
+  pub marker : step.name ≢ [] → IsIdentifier (marker_of step)
 
 -- ---- registers
 
