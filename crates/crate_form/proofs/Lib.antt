@@ -4,3 +4,4 @@ pub mod Sound
 pub mod Named
 pub mod Units
 pub mod Forming
+pub mod Elements
