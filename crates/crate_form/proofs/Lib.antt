@@ -5,3 +5,4 @@ pub mod Named
 pub mod Units
 pub mod Forming
 pub mod Elements
+pub mod Peripherals

@@ -35,10 +35,6 @@ unfolding joined in_line
 joined_ended [] = refl
 joined_ended (unit ∷ units) = ap (before unit) (joined_ended units)
 
-pub unit_more : (units : List Module) (unit : Module) → units_of (units ++ unit ∷ []) ≡ units_of units ++ module_tree unit ∷ []
-unit_more [] unit = refl
-unit_more (first ∷ units) unit = ap (λ units. module_tree first ∷ units) (unit_more units unit)
-
 -- ---- valid ones
 
 and_one : (a b c : Bool) → (a && b) ≡ true → (b ≡ true → c ≡ true) → (a && c) ≡ true
