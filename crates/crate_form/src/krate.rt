@@ -45,11 +45,7 @@ pub fn crate_slots(alloc: Global, state: &Checked) -> Result<Seq<Slot>, NoMemory
 }
 
 /// Its block module of this number, counted from 0; none where it has no more.
-pub fn crate_block(
-    alloc: Global,
-    state: &Checked,
-    number: usize,
-) -> Result<Option<Block>, NoMemory>
+pub fn crate_block(alloc: Global, state: &Checked, number: usize) -> Result<Option<Block>, NoMemory>
     ensures form { IfOk result (λ block. option_map block_tree block ≡ slice_get (emitted state.now).blocks number) }
     ensures valid { IfOk result (λ block. IfSome block (λ block. valid_block One (block_tree block) ≡ true)) }
 {
