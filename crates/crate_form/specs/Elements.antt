@@ -2,15 +2,18 @@
 use Rattle.std.specs.Prelude.{ℕ, ◌≢◌, List, [], ◌∷◌, All}
 use Rattle.std.specs.List.{AllByRecursion}
 use Rattle.block_form.specs.declared.child.Child.{Child}
+use Rattle.block_form.specs.declared.child.ChildKind.{ChildKind}
 use Rattle.checked_tree.specs.Blocks.{AreInBlock}
 use Rattle.checked_tree.specs.Devices.{PeripheralIsChecked}
 use Rattle.checked_tree.specs.Places.{ArePlaced}
+use Rattle.frag_tree.specs.declared.krate.Slot.{Slot}
 use Rattle.frag_tree.specs.Trees.{BlockTree, ModuleTree}
 use Rattle.reg_table.specs.Walk.{FitIn, props_inside}
 use Rattle.reg_table.specs.declared.row.Call.{Call}
 use Rattle.reg_table.specs.declared.row.FieldRow.{FieldRow}
 use Rattle.register_form.specs.declared.register.Register.{Register}
 use Rattle.rust_names.specs.Identifiers.{IsIdentifier}
+use Rattle.svd_model.specs.declared.device.Dim.{Dim}
 use Rattle.svd_model.specs.declared.device.Field.{Field}
 use Rattle.svd_model.specs.declared.device.Item.{Item}
 use Rattle.svd_model.specs.declared.props.Props.{Props}
@@ -19,7 +22,9 @@ use Rattle.svd_model.specs.Keys.{Key}
 use Rattle.svd_model.specs.Steps.{Step}
 use Rattle.svd_model.specs.Trees.{item_under}
 use Rattle.svd_rows.specs.Forest.{Forest, Tree, siblings}
-use Rattle.crate_form.specs.Children.{child_of, children_of}
+use Rattle.svd_values.specs.AccessorNames.{accessor_name}
+use Rattle.crate_form.specs.Children.{array_of, child_of, child_with, children_of}
+use Rattle.crate_form.specs.Crates.{slot_of}
 use Rattle.crate_form.specs.Modules.{block_of, module_of, modules_of}
 use Rattle.crate_form.specs.Registers.{register_here, written_marker}
 
@@ -82,6 +87,14 @@ abbrev pub module_at : Props → (Step × Tree Step Key) → ModuleTree
 module_at outer element =
     module_of (props_inside element.1.keys outer) element.0 element.1.keys element.1.below (modules_of (props_inside element.1.keys outer) element.1.below)
 
--- the block of a peripheral
+-- what a block is told of a declared element of this kind and at this offset that takes so many bytes
+abbrev pub child_from : Sibling → ChildKind → ℕ → Dim → ℕ → ℕ → Child
+child_from key kind offset dim size align =
+    child_with (accessor_name key.name) kind offset (array_of dim.count dim.step) (record { size = size; align = align })
+
+-- the slot of a peripheral, and its block
+abbrev pub slot_at : (Step × Tree Step Key) → Slot
+slot_at element = slot_of element.0 element.1.keys
+
 abbrev pub block_at : Props → (Step × Tree Step Key) → BlockTree
 block_at outer element = block_of (props_inside element.1.keys outer) element.0 element.1.below

@@ -1,5 +1,5 @@
 -- What the code makes of elements: the children of a block and the modules inside it, and whole blocks. Each can be printed in a text of the first version, and is read again.
-use Rattle.std.specs.Prelude.{ℕ, ◌≡◌, Bool, true, List, map}
+use Rattle.std.specs.Prelude.{◌∷◌, [], ℕ, ◌≡◌, Bool, true, List, map}
 use Rattle.std.specs.List.{list_all}
 use Rattle.block_form.specs.declared.form.Form.{Form}
 use Rattle.frag_tree.specs.declared.block.Block.{Block}
@@ -7,10 +7,13 @@ use Rattle.frag_tree.specs.declared.block.Module.{Module}
 use Rattle.frag_tree.specs.declared.krate.Version.TheVariants.{One}
 use Rattle.frag_tree.specs.Trees.{BlockTree, ModuleTree, Modules, block_tree, in_line, module_tree, one_block, one_register}
 use Rattle.frag_tree.specs.Validity.{valid_block, valid_register}
+use Rattle.svd_model.specs.declared.device.Cluster.{Cluster, out-Cluster}
 use Rattle.svd_model.specs.declared.props.Props.{Props}
 use Rattle.svd_model.specs.Keys.{Key}
+use Rattle.svd_model.specs.Properties.{holding}
 use Rattle.svd_model.specs.Steps.{Step}
-use Rattle.svd_rows.specs.Forest.{Forest, Tree}
+use Rattle.svd_model.specs.Trees.{item_under}
+use Rattle.svd_rows.specs.Forest.{Forest, Tree, siblings}
 use Rattle.crate_form.specs.declared.part.Part.{Part}
 use Rattle.crate_form.specs.declared.part.Parts.{Parts}
 use Rattle.crate_form.specs.Children.{children_of}
@@ -30,6 +33,11 @@ pub record AreParts (outer : Props) (forest : Forest Step Key) (parts : Parts) :
   pub children : parts.children ≡ children_of outer forest
   pub units : in_line (units_of parts.units.items) ≡ modules_of outer forest
   pub valid : list_all valid_unit (units_of parts.units.items) ≡ true
+
+-- those inside a cluster, inside of which these properties hold
+abbrev pub AreInside : Props → Cluster → Parts → Type 0
+AreInside outer cluster parts =
+    AreParts (holding ((out-Cluster cluster).props ∷ outer ∷ [])) (siblings (map item_under (out-Cluster cluster).children.items)) parts
 
 -- that of one of them
 pub record IsPart (outer : Props) (element : Step × Tree Step Key) (part : Part) : Type 0 where

@@ -1,7 +1,7 @@
 ghost use Rattle.std.specs.Prelude.{◌≡◌, ◌<◌, ◌^◌, ◌∷◌, [], true, map, option_map, IfOk, IfSome};
 ghost use Rattle.std.specs.List.{list_all, slice_get};
-ghost use Rattle.crate_form.specs.Crates.{emitted, slot_of};
-ghost use Rattle.crate_form.specs.Elements.{AllStand, IsPeripheral, block_at};
+ghost use Rattle.crate_form.specs.Crates.{emitted};
+ghost use Rattle.crate_form.specs.Elements.{AllStand, IsPeripheral, block_at, slot_at};
 ghost use Rattle.crate_form.specs.Parts.{IsBlock};
 ghost use Rattle.frag_tree.specs.declared.krate.Version.TheVariants.{One};
 ghost use Rattle.frag_tree.specs.Trees.{block_tree, crate_tree};
@@ -80,7 +80,7 @@ fn slot(
     outer: &Props,
 ) -> Result<Slot, NoMemory>
     requires { IsPeripheral outer.now (peripheral_under (key.now, peripheral.now)) }
-    ensures is { IfOk result (λ slot. slot ≡ slot_of (peripheral_under (key.now, peripheral.now)).0 (peripheral_under (key.now, peripheral.now)).1.keys) }
+    ensures is { IfOk result (λ slot. slot ≡ slot_at (peripheral_under (key.now, peripheral.now))) }
     ensures valid { IfOk result (λ slot. valid_slot slot ≡ true) }
 {
     let _ = outer;

@@ -2,9 +2,9 @@ ghost use Rattle.std.specs.Prelude.{◌≡◌, ◌≢◌, ◌<◌, ◌^◌, ◌�
 ghost use Rattle.std.specs.List.{AllByRecursion, list_all};
 ghost use Rattle.block_form.specs.Children.{IsSound};
 ghost use Rattle.block_form.specs.Numbers.{IsValid};
-ghost use Rattle.crate_form.specs.Children.{array_of, child_with};
-ghost use Rattle.crate_form.specs.Elements.{AllStand, StandsAlone};
-ghost use Rattle.crate_form.specs.Parts.{AreParts, IsBlock, IsPart, block_with, units_of, valid_unit};
+ghost use Rattle.crate_form.specs.Children.{array_of};
+ghost use Rattle.crate_form.specs.Elements.{AllStand, StandsAlone, child_from};
+ghost use Rattle.crate_form.specs.Parts.{AreInside, AreParts, IsBlock, IsPart, block_with, units_of, valid_unit};
 ghost use Rattle.frag_tree.specs.Trees.{in_line};
 ghost use Rattle.rust_names.specs.Identifiers.{IsIdentifier};
 ghost use Rattle.svd_model.specs.declared.device.Cluster.{out-Cluster};
@@ -95,7 +95,7 @@ fn cluster_part(
     inside: Parts,
 ) -> Result<Part, NoMemory>
     requires stands { StandsAlone outer.now (cluster_under key.now cluster.now) }
-    requires inside { AreParts (holding ((out-Cluster cluster.now).props ∷ outer.now ∷ [])) (siblings (map item_under (out-Cluster cluster.now).children.items)) inside }
+    requires inside { AreInside outer.now cluster.now inside }
     ensures { IfOk result (IsPart outer.now (cluster_under key.now cluster.now)) }
 {
     let _ = outer;
@@ -157,7 +157,7 @@ fn child(
 ) -> Result<Child, NoMemory>
     requires named { key.now.name ≢ [] → IsIdentifier (accessor_name key.now.name) }
     requires offset { offset < 2 ^ 64 }
-    ensures { IfOk result (λ made. made ≡ child_with (accessor_name key.now.name) kind offset (array_of dim.now.count dim.now.step) (record { size = size; align = align })) }
+    ensures { IfOk result (λ made. made ≡ child_from key.now kind offset dim.now size align) }
 {
     Ok(Child {
         name: accessor_of(alloc, &key.name)?,
