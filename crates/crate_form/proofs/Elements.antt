@@ -1,5 +1,5 @@
 -- What a register and a cluster come to, from their declared parts.
-use Rattle.std.proofs.Common.{◌≡◌, ℕ, ◌*◌, List, [], ◌∷◌, map, unwrap_or, refl, sym, ap, ap₂, ◌∙◌, arith}
+use Rattle.std.proofs.Common.{◌≡◌, ℕ, ◌*◌, List, [], ◌∷◌, map, unwrap_or, sym, ap, ap₂, ◌∙◌, arith}
 use Rattle.block_form.specs.declared.child.Child.{Child}
 use Rattle.block_form.specs.declared.child.ChildKind.TheVariants as kind
 use Rattle.block_form.specs.declared.form.Form.{Form}
@@ -19,13 +19,11 @@ use Rattle.svd_model.specs.declared.device.Register.{Register}
 use Rattle.svd_model.specs.declared.props.Props.{Props}
 use Rattle.svd_model.specs.declared.sibling.Sibling.{Sibling}
 use Rattle.svd_model.specs.Checking.{bytes_of, width_of}
-use Rattle.svd_model.specs.Keys.{Key}
 use Rattle.svd_model.specs.Properties.{holding, register_properties, size_at}
-use Rattle.svd_model.specs.Steps.{Step, cluster}
 use Rattle.svd_model.specs.Trees.{item_under, register_places, register_tree}
 use Rattle.svd_model.specs.Unbuilt.{cluster_under, register_under}
 use Rattle.svd_model.proofs.Stated.{cluster-dim, cluster-increment, cluster-offset, register-dim, register-increment, register-offset}
-use Rattle.svd_rows.specs.Forest.{Tree, siblings}
+use Rattle.svd_rows.specs.Forest.{siblings}
 use Rattle.svd_rows.specs.Ranks.{stated}
 use Rattle.svd_rows.specs.Rows.{rows}
 use Rattle.svd_values.specs.AccessorNames.{accessor_name}

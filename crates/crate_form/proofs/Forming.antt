@@ -1,23 +1,21 @@
 -- The emitted crate has its form, and no other crate has it.
-use Rattle.std.proofs.Common.{◌≡◌, ℕ, Bool, true, false, List, [], ◌∷◌, refl, sym, ap, ap₂, ◌∙◌}
+use Rattle.std.proofs.Common.{◌≡◌, ℕ, Bool, true, false, List, [], ◌∷◌, refl, ap, ap₂, ◌∙◌}
 use Rattle.block_form.specs.declared.child.Child.{Child}
 use Rattle.block_form.specs.declared.form.Form.{Form}
 use Rattle.block_form.specs.Forms.{form_of as block_form_of}
 use Rattle.block_form.proofs.Forming.{form_is, one_form}
 use Rattle.frag_tree.specs.declared.register.RegisterModule.{RegisterModule}
-use Rattle.frag_tree.specs.Trees.{BlockTree, CrateTree, Modules, ModuleTree, before, one_block, one_register}
+use Rattle.frag_tree.specs.Trees.{BlockTree, Modules, ModuleTree, before, one_block, one_register}
 use Rattle.register_form.specs.declared.register.Register.{Register}
 use Rattle.register_form.specs.Forms.{form_of}
 use Rattle.reg_table.specs.Walk.{props_inside, stated_props}
-use Rattle.svd_model.specs.declared.device.Device.{Device}
 use Rattle.svd_model.specs.declared.props.Props.{Props}
 use Rattle.svd_model.specs.Keys.{Key}
 use Rattle.svd_model.specs.Stating.{is_of}
 use Rattle.svd_model.specs.Steps.{Step, register}
-use Rattle.svd_model.specs.Trees.{device_places, device_rows, device_tree}
+use Rattle.svd_model.specs.Trees.{device_tree}
 use Rattle.svd_model.proofs.Stated.{device-props}
 use Rattle.svd_rows.specs.Forest.{Forest, Tree, leaf, node}
-use Rattle.svd_rows.specs.Ranks.{stated}
 use Rattle.svd_rows.specs.Reading.{tree_of}
 use Rattle.svd_rows.proofs.Reading.{tree_of-rows}
 use Rattle.svd_values.specs.AccessorNames.{accessor_name}
@@ -25,7 +23,7 @@ use Rattle.crate_form.specs.Children.{children_of}
 use Rattle.crate_form.specs.Crates.{blocks_of, crate_of, emitted}
 use Rattle.crate_form.specs.Forms.{AreBlocksOf, AreUnitsOf, IsBlockOf, IsModuleOf, IsUnitOf}
 use Rattle.crate_form.specs.Laws.{EmittedByTree, EmittedHasForm, OneHasForm}
-use Rattle.crate_form.specs.Modules.{block_around, block_of, head_of, module_by, module_of, modules_of}
+use Rattle.crate_form.specs.Modules.{head_of, module_by, module_of, modules_of}
 use Rattle.crate_form.specs.Registers.{register_here}
 
 -- ---- one module

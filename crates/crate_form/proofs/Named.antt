@@ -1,5 +1,5 @@
 -- The names of a register's fields are identifiers, so are their markers and the names of their calls; and each field has 1 to 64 bits.
-use Rattle.std.proofs.Common.{◌≡◌, ℕ, ◌+◌, ◌≤◌, List, [], ◌∷◌, map, Option, None, option_map, refl, sym, ap, ap₂, ◌∙◌, subst, arith, lit≤}
+use Rattle.std.proofs.Common.{◌≡◌, ℕ, ◌≤◌, List, [], ◌∷◌, map, Option, None, option_map, refl, sym, ap, subst, arith, lit≤}
 use Rattle.std.specs.List.{AllByRecursion}
 use Rattle.checked_tree.specs.Names.{accessor_names}
 use Rattle.checked_tree.specs.Registers.{FieldHasNames, FieldIsNamed}

@@ -1,11 +1,11 @@
 -- The children of a block fit from where it starts: each stands at a multiple of its alignment and ends in the address range, and so does a block inside. So they are sound.
-use Rattle.std.proofs.Common.{◌≡◌, ℕ, ◌+◌, ◌*◌, ◌%◌, ◌<◌, ◌≤◌, ◌^◌, Bool, true, false, List, [], ◌∷◌, Option, Some, None, option_map, unwrap_or, inl, inr, refl, sym, ap, ◌∙◌, subst, arith}
+use Rattle.std.proofs.Common.{◌≡◌, ℕ, ◌+◌, ◌*◌, ◌%◌, ◌≤◌, ◌^◌, Bool, true, false, List, [], ◌∷◌, Option, Some, None, option_map, unwrap_or, inl, inr, refl, sym, ap, ◌∙◌, subst, arith}
 use Rattle.std.specs.List.{AllByRecursion}
 use Rattle.std.proofs.lemmas.Bool.{false≢true}
 use Rattle.std.proofs.lemmas.Bool.Decides.{nat_tests}
 use Rattle.block_form.specs.declared.child.Array.{Array}
 use Rattle.block_form.specs.declared.child.Child.{Child}
-use Rattle.block_form.specs.Children.{FitsFrom, IsAlignment, IsSound, child_count, child_place, has_members, place_in}
+use Rattle.block_form.specs.Children.{FitsFrom, IsAlignment, IsSound, has_members, place_in}
 use Rattle.block_form.specs.Forms.{align_among, size_among}
 use Rattle.block_form.proofs.Extents.{align_fits, block_fits, fit_is_sound}
 use Rattle.checked_tree.specs.Blocks.{AreInBlock, InBlock, IsChild, IsCount}

@@ -1,5 +1,5 @@
 -- Registers and clusters that stand in a block: each by itself, and those inside a cluster and a peripheral.
-use Rattle.std.proofs.Common.{◌≡◌, ℕ, zero, suc, ◌+◌, ◌*◌, ◌<◌, ◌≤◌, ◌^◌, List, [], ◌∷◌, map, Option, None, unwrap_or, refl, sym, ap, ◌∙◌, subst, arith, lit≤, zero-add}
+use Rattle.std.proofs.Common.{◌≡◌, ℕ, zero, suc, ◌+◌, ◌*◌, ◌<◌, ◌≤◌, ◌^◌, List, [], ◌∷◌, map, Option, None, unwrap_or, sym, ap, ◌∙◌, subst, arith, lit≤, zero-add}
 use Rattle.checked_tree.specs.Blocks.{AreInBlock, IsChild}
 use Rattle.checked_tree.specs.Devices.{ArePeripherals}
 use Rattle.checked_tree.specs.Places.{ArePlaced}

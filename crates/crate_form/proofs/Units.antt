@@ -1,10 +1,9 @@
 -- Modules in their order, and the children of a block, one by one.
-use Rattle.std.proofs.Common.{◌≡◌, ℕ, ◌+◌, ◌<◌, Bool, true, false, ◌&&◌, List, [], ◌∷◌, ◌++◌, map, refl, sym, ap, ◌∙◌}
+use Rattle.std.proofs.Common.{◌≡◌, Bool, true, false, ◌&&◌, List, [], ◌∷◌, ◌++◌, refl, ap}
 use Rattle.std.specs.List.{list_all}
 use Rattle.std.proofs.lemmas.Bool.{false≢true}
-use Rattle.frag_tree.specs.declared.block.Module.{Module}
 use Rattle.frag_tree.specs.declared.krate.Version.TheVariants.{One}
-use Rattle.frag_tree.specs.Trees.{Modules, ModuleTree, before, ended, in_line, module_tree, one_block, one_register}
+use Rattle.frag_tree.specs.Trees.{Modules, ModuleTree, before, ended, in_line, one_block, one_register}
 use Rattle.frag_tree.specs.Validity.{valid_head, valid_modules, valid_register}
 use Rattle.svd_model.specs.declared.props.Props.{Props}
 use Rattle.svd_model.specs.Keys.{Key}
@@ -13,7 +12,7 @@ use Rattle.svd_rows.specs.Forest.{Tree, siblings}
 use Rattle.crate_form.specs.Children.{children_of}
 use Rattle.crate_form.specs.Elements.{child_at, module_at}
 use Rattle.crate_form.specs.Modules.{modules_of}
-use Rattle.crate_form.specs.Parts.{units_of, valid_unit}
+use Rattle.crate_form.specs.Parts.{valid_unit}
 
 -- ---- modules in front of others
 

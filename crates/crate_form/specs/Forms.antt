@@ -4,7 +4,7 @@ use Rattle.block_form.specs.declared.child.Child.{Child}
 use Rattle.block_form.specs.declared.form.Form.{Form}
 use Rattle.block_form.specs.Forms.{IsFormOf}
 use Rattle.frag_tree.specs.declared.register.RegisterModule.{RegisterModule}
-use Rattle.frag_tree.specs.Trees.{BlockHead, BlockTree, CrateTree, Modules, ModuleTree, before, ended, one_block, one_register}
+use Rattle.frag_tree.specs.Trees.{BlockTree, CrateTree, Modules, ModuleTree, before, ended, one_block, one_register}
 use Rattle.register_form.specs.declared.register.Register.{Register}
 use Rattle.register_form.specs.Forms.{constant, markers_of, masks_of, readers_among, values_among, where_true, writers_among}
 use Rattle.reg_table.specs.Walk.{props_inside, stated_props}

@@ -1,5 +1,5 @@
 -- Worked rows: the crates that are emitted for small descriptions, by computation.
-use Rattle.std.specs.Prelude.{◌≡◌, ℕ, true, false, Some, None, List, [], ◌∷◌, codes, refl, ⊤}
+use Rattle.std.specs.Prelude.{◌≡◌, ℕ, true, Some, None, List, [], ◌∷◌, codes, refl, ⊤}
 use Rattle.std.specs.Fmt.{digits}
 use Rattle.block_form.specs.Fields.{end_from, fields_from, greatest_align, taken_from}
 use Rattle.block_form.specs.Gaps.{gap_field, gap_name}
@@ -13,7 +13,7 @@ use Rattle.frag_tree.specs.declared.register.RegisterModule.{RegisterModule}
 use Rattle.frag_tree.specs.declared.register.Spot.TheVariants.{Fixed}
 use Rattle.frag_tree.specs.declared.register.Values.TheVariants as values
 use Rattle.frag_tree.specs.declared.register.WriteForm.TheVariants as write
-use Rattle.frag_tree.specs.Trees.{Modules, block, ended, register as register_module}
+use Rattle.frag_tree.specs.Trees.{block, ended, register as register_module}
 use Rattle.frag_tree.specs.Worked.{example}
 use Rattle.pac_base.specs.declared.width.Width.{Width}
 use Rattle.pac_base.specs.declared.width.Width.TheVariants.{W8, W16, W32}

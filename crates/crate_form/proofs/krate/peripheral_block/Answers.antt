@@ -1,5 +1,5 @@
 -- The block has the struct and the modules of the peripheral's children.
-use Rattle.std.proofs.Common.{List, ◌∙◌, ◌∷◌, [], map, sym, ap, subst, IfOk}
+use Rattle.std.proofs.Common.{List, ◌∙◌, map, sym, ap, subst, IfOk}
 use Rattle.std.specs.List.{AllByRecursion}
 use Rattle.block_form.specs.Children.{IsSound}
 use Rattle.block_form.specs.Forms.{form_of}

@@ -1,8 +1,7 @@
 -- The slot has the names and the address that the peripheral's keys say.
-use Rattle.std.proofs.Common.{◌≡◌, ◌&&◌, ◌<◌, ◌^◌, ℕ, Option, unwrap_or, true, sym, ap, ◌∙◌, subst, arith}
+use Rattle.std.proofs.Common.{◌&&◌, ℕ, Option, unwrap_or, sym, ap, ◌∙◌, arith}
 use Rattle.std.proofs.lemmas.Bool.{and_from}
 use Rattle.std.proofs.lemmas.Bool.Decides.{nat_tests}
-use Rattle.frag_tree.specs.declared.krate.Slot.{Slot}
 use Rattle.frag_tree.specs.Validity.{is_number}
 use Rattle.rust_names.specs.Identifiers.{is_identifier}
 use Rattle.svd_model.proofs.Stated.{peripheral-base}

@@ -1,5 +1,5 @@
 -- Each child and each module is that of its element.
-use Rattle.std.proofs.Common.{◌≡◌, ◌∙◌, ◌++◌, ◌∷◌, [], ◌+◌, List, map, drop, subst, sym, ap, append-nil, append_assoc, IfOk}
+use Rattle.std.proofs.Common.{◌∙◌, ◌++◌, ◌∷◌, [], ◌+◌, List, map, drop, subst, sym, ap, append-nil, append_assoc, IfOk}
 use Rattle.std.specs.List.{list_all}
 use Rattle.frag_tree.specs.Trees.{before, module_tree}
 use Rattle.reg_table.proofs.Walks.{cluster-child, register-child}

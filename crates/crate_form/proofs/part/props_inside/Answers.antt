@@ -1,7 +1,6 @@
 -- What is inside the cluster stands there.
-use Rattle.std.proofs.Common.{List, sym, subst}
+use Rattle.std.proofs.Common.{sym, subst}
 use Rattle.svd_model.specs.declared.device.Cluster.{out-Cluster}
-use Rattle.svd_model.specs.declared.device.Item.{Item}
 use Rattle.svd_model.specs.declared.props.Props.{Props}
 use Rattle.crate_form.specs.Elements.{AllStand}
 use Rattle.crate_form.proofs.Standing.{stand-cluster, stand-each}

@@ -1,7 +1,5 @@
 -- The calls so far are made, and those that are left are named.
-use Rattle.std.proofs.Common.{◌≡◌, map, take, drop}
-use Rattle.std.specs.List.{AllByRecursion}
-use Rattle.crate_form.specs.Elements.{CallIsNamed}
+use Rattle.std.proofs.Common.{◌≡◌, map, take}
 use Rattle.crate_form.specs.Registers.{number_call}
 use Rattle.crate_form.proofs.register.number_calls.Given as goal
 
