@@ -15,7 +15,7 @@ use Rattle.checked_tree.specs.Places.{ArePlaced, StandsAt}
 use Rattle.checked_tree.specs.Registers.{RegisterIsChecked}
 use Rattle.crate_form.specs.Children.{children_of}
 use Rattle.crate_form.specs.Modules.{block_of, module_by, modules_of}
-use Rattle.crate_fits.proofs.Children.{are-sound, as-many, child-name, fits-from, names-are, no-gaps}
+use Rattle.crate_fits.proofs.Children.{are-sound, as-many, child-name, names-are, no-gaps}
 use Rattle.crate_fits.proofs.Extents.{are-known}
 use Rattle.crate_fits.proofs.Found.{AreFound, are-found}
 use Rattle.crate_fits.proofs.Registers.{free-of, keeps-rules}
@@ -73,7 +73,7 @@ block-keeps version start props step below siblings inside placed =
     let names : HaveNames children = ap are_distinct_names (names-are props below) ∙ siblings.names in
     let few : length children < 2 ^ 64 = let many = as-many props below in let less = siblings.few in omega (arith, many, less) in
     let gaps = no-gaps props below inside in
-    let sound = are-sound start children (fits-from start props below inside placed) in
+    let sound = are-sound start props below inside placed in
     let differ = names_differ children few names gaps in
     let lead = paths_lead unit.inside children (are-modules unit.inside props below (are-found props below siblings.names)) in
     let bodies = bodies_fit children names gaps in

@@ -12,9 +12,10 @@ use Rattle.checked_tree.specs.Blocks.{AreInBlock, InBlock, IsChild}
 use Rattle.checked_tree.specs.Names.{AreSiblings}
 use Rattle.checked_tree.specs.Places.{ArePlaced, StandsAt}
 use Rattle.checked_tree.specs.Registers.{RegisterIsChecked}
-use Rattle.crate_form.specs.Children.{child_by, children_of}
+use Rattle.crate_form.specs.Children.{array_of, child_by, children_of}
+use Rattle.crate_form.proofs.Sound.{among, count_in, place-is}
 use Rattle.crate_form.specs.Modules.{block_of, module_by, modules_of}
-use Rattle.crate_fits.proofs.Children.{members-of, names-are, no-gaps}
+use Rattle.crate_fits.proofs.Children.{names-are, no-gaps}
 use Rattle.crate_fits.proofs.Extents.{are-known, bytes-bits}
 use Rattle.crate_fits.proofs.Found.{AreFound, are-found, child_here, module_here}
 use Rattle.frag_sem.specs.AddressEnds.{End, access_end, accessors_end, block_end, end_fits, ends, greater, last_index, module_end}
@@ -31,7 +32,7 @@ use Rattle.svd_model.specs.declared.props.Props.{Props}
 use Rattle.svd_model.specs.Checking.{bytes_of, width_of}
 use Rattle.svd_model.specs.Keys.{Key}
 use Rattle.svd_model.specs.Properties.{size_at}
-use Rattle.svd_model.specs.Stating.{is_of, start_of, stated_dim, value_of}
+use Rattle.svd_model.specs.Stating.{is_of, start_of, stated_dim, stated_increment, value_of}
 use Rattle.svd_model.specs.Steps.{Step, register}
 use Rattle.svd_rows.specs.Forest.{Forest, leaf, node}
 
@@ -90,6 +91,10 @@ block-end start props step below siblings inside fits =
     (accessors_lead (block_of props step below) children names (no-gaps props below inside) (are-known props below siblings inside) refl)
 
 module _ (start : ℕ) (props : Props) (step : Step) (keys : List Key) (below : Forest Step Key) (child : IsChild step keys) where
+  -- an index that fits is that of a member
+  fits : (index : Option ℕ) → admits (count_in (array_of (value_of stated_dim keys) (value_of stated_increment keys))) index ≡ true → IsAmong (value_of stated_dim keys) index
+  fits index h = among (value_of stated_dim keys) (value_of stated_increment keys) index h
+
   end-here : (b : Bool) → ((index : Option ℕ) → IsAmong (value_of stated_dim keys) index → StandsAt b (start + start_of keys index) props (ArePlaced (start + start_of keys index) props below))
       → InBlock b (RegisterIsChecked props keys below) (AreSiblings below × AreInBlock props below)
       → ((from : ℕ) → AreInBlock props below → ArePlaced from props below → EndsFit from props below)
@@ -97,16 +102,14 @@ module _ (start : ℕ) (props : Props) (step : Step) (keys : List Key) (below : 
       → end_fits (start + child_place (child_by b props step keys (children_of props below)) index) (module_end (module_by b props step keys below (modules_of props below))) ≡ true
   unfolding register_row
   end-here true placed inside each index h =
-      let members = members-of step keys child in
-      let ends = (placed index (members.among index h)).ends in
+      let ends = (placed index (fits index h)).ends in
       let width = width_of (size_at props) in
       let is : bits_of width / 8 ≡ bytes_of width = bytes-bits width in
       let within : nat_le (start + start_of keys index + bytes_of width) (2 ^ 64) ≡ true = grind (arith, nat_tests, ends) in
-      ap₂ (λ at bytes. nat_le (start + at + bytes) (2 ^ 64)) (sym (members.starts index h)) is ∙ within
+      ap₂ (λ at bytes. nat_le (start + at + bytes) (2 ^ 64)) (place-is keys child.no_base index h) is ∙ within
   end-here false placed inside each index h =
-      let members = members-of step keys child in
-      let here = placed index (members.among index h) in
-      subst (λ (n : ℕ). end_fits (start + n) (block_end (block_of props step below)) ≡ true) (members.starts index h)
+      let here = placed index (fits index h) in
+      subst (λ (n : ℕ). end_fits (start + n) (block_end (block_of props step below)) ≡ true) (sym (place-is keys child.no_base index h))
       (block-end (start + start_of keys index) props step below inside.0 inside.1 (each (start + start_of keys index) inside.1 here.1))
 
 pub ends-fit : (start : ℕ) (outer : Props) (f : Forest Step Key) → AreInBlock outer f → ArePlaced start outer f → EndsFit start outer f

@@ -28,14 +28,14 @@ use Rattle.crate_form.specs.Elements.{Stand}
 
 -- ---- members
 
-abbrev count_in : Option Array → Option ℕ
+abbrev pub count_in : Option Array → Option ℕ
 count_in array = option_map (λ (array : Array). array.count) array
 
 some_members : (dim increment : Option ℕ) → IsCount dim → has_members (count_in (array_of dim increment)) ≡ true
 some_members None increment is = refl
 some_members (Some n) increment is = let some : 1 ≤ n = is.0 in grind (arith, nat_tests, some)
 
-among : (dim increment index : Option ℕ) → admits (count_in (array_of dim increment)) index ≡ true → IsAmong dim index
+pub among : (dim increment index : Option ℕ) → admits (count_in (array_of dim increment)) index ≡ true → IsAmong dim index
 among None increment None is = tt
 among None increment (Some i) is = absurd (false≢true is)
 among (Some n) increment None is = tt
@@ -49,7 +49,7 @@ place_of offset (Some n) increment (Some i) is = omega arith
 
 module _ (keys : List Key) (no_base : value_of stated_base keys ≡ None) (index : Option ℕ) where
   -- a member stands where its keys say
-  place-is : admits (count_in (array_of (value_of stated_dim keys) (value_of stated_increment keys))) index ≡ true → place_in (unwrap_or (value_of stated_offset keys) 0) (array_of (value_of stated_dim keys) (value_of stated_increment keys)) index ≡ start_of keys index
+  pub place-is : admits (count_in (array_of (value_of stated_dim keys) (value_of stated_increment keys))) index ≡ true → place_in (unwrap_or (value_of stated_offset keys) 0) (array_of (value_of stated_dim keys) (value_of stated_increment keys)) index ≡ start_of keys index
   place-is is =
       place_of (unwrap_or (value_of stated_offset keys) 0) (value_of stated_dim keys) (value_of stated_increment keys) index is
       ∙ ap (λ (base : Option ℕ). unwrap_or base 0 + unwrap_or (value_of stated_offset keys) 0 + unwrap_or index 0 * unwrap_or (value_of stated_increment keys) 0) (sym no_base)
