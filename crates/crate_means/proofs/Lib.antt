@@ -1,0 +1,5 @@
+pub mod Named
+pub mod Seeking
+pub mod Walk
+pub mod Places
+pub mod Surfaces

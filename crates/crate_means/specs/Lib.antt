@@ -1,0 +1,5 @@
+pub mod Siblings
+pub mod RegisterIs
+pub mod BlockIs
+pub mod CrateIs
+pub mod Laws
