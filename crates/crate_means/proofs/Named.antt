@@ -9,7 +9,7 @@ use Rattle.frag_sem.specs.Modules.{are_distinct}
 use Rattle.frag_sem.proofs.Lists.{both_true}
 use Rattle.svd_model.specs.Keys.{Key}
 use Rattle.svd_model.specs.Steps.{Step}
-use Rattle.svd_rows.specs.Forest.{Forest, leaf, node}
+use Rattle.svd_rows.specs.Forest.{Forest, leaf, node, steps}
 use Rattle.crate_means.specs.Siblings.{names_by}
 
 pub record Element : Type 0 where
@@ -24,7 +24,7 @@ element_named name_of name (node step keys children others) =
     cond (bytes_eq name (name_of step.name)) (Some (record { step = step; keys = keys; children = children })) (element_named name_of name others)
 
 not-named : (name_of : List ℕ → List ℕ) (name : List ℕ) (f : Forest Step Key) → list_any (bytes_eq name) (names_by name_of f) ≡ false → element_named name_of name f ≡ None
-unfolding names_by
+unfolding steps
 not-named name_of name leaf none = refl
 not-named name_of name (node step keys children others) none =
     let both = or_parts (bytes_eq name (name_of step.name)) (list_any (bytes_eq name) (names_by name_of others)) none in
@@ -44,7 +44,7 @@ or-none (Some x) = refl
 
 -- where names are distinct, it is found in the first of the name
 pub sought-named : {X : Type 0} (name_of : List ℕ → List ℕ) (name : List ℕ) (look : Element → Option X) (f : Forest Step Key) → are_distinct bytes_eq (names_by name_of f) ≡ true → sought name_of name look f ≡ option_and_then look (element_named name_of name f)
-unfolding names_by are_distinct
+unfolding steps are_distinct
 sought-named name_of name look leaf distinct = refl
 sought-named {X} name_of name look (node step keys children others) distinct =
     ap (option_or (cond (bytes_eq name (name_of step.name)) (look e) None)) (sought-named name_of name look others both.1) ∙ by (bytes_eq name (name_of step.name)) refl
