@@ -5,12 +5,14 @@ use Rattle.frag_tree.specs.declared.krate.Version.{Version}
 use Rattle.frag_tree.specs.declared.krate.Version.TheVariants.{One, Two}
 use Rattle.frag_tree.specs.Trees.{BlockTree, CrateTree}
 use Rattle.register_form.specs.Forms.{has_arrays}
-use Rattle.reg_table.specs.Walk.{props_inside}
+use Rattle.reg_table.specs.Walk.{props_inside, stated_props}
 use Rattle.svd_model.specs.declared.props.Props.{Props}
 use Rattle.svd_model.specs.Keys.{Key}
 use Rattle.svd_model.specs.Stating.{is_of, stated_base, value_of}
 use Rattle.svd_model.specs.Steps.{Step, register}
 use Rattle.svd_rows.specs.Forest.{Forest, leaf, node}
+use Rattle.svd_rows.specs.Reading.{tree_of}
+use Rattle.svd_rows.specs.Rows.{Row}
 use Rattle.svd_values.specs.AccessorNames.{accessor_name, slot_name_of}
 use Rattle.crate_form.specs.Modules.{block_of}
 use Rattle.crate_form.specs.Registers.{register_here}
@@ -53,3 +55,7 @@ crate_of outer peripherals = record {
   slots = slots_of peripherals;
   blocks = blocks_of outer peripherals;
 }
+
+-- the crate of a description's flat rows: they spell one tree, whose own keys state the properties that hold in the device
+unfoldable pub emitted : List (Row Step Key) → CrateTree
+emitted all = crate_of (stated_props (tree_of all).keys) (tree_of all).below

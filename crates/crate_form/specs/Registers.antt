@@ -75,13 +75,13 @@ register_of name row markers = record {
 
 -- ---- from the forest
 
--- the marker of a field: its written name
-abbrev pub marker_of : Step → List ℕ
-marker_of step = marker_name (without_array_mark step.name)
+-- the marker of a field of this written name
+abbrev pub written_marker : List ℕ → List ℕ
+written_marker name = marker_name (without_array_mark name)
 
 -- the markers of the fields of a register, as they are declared
 abbrev pub markers_of : Forest Step Key → List (List ℕ)
-markers_of fields = map marker_of (steps fields)
+markers_of fields = map (λ step. written_marker step.name) (steps fields)
 
 -- the row of a register with these keys and fields, in which these properties hold; no accessor leads to it
 abbrev pub row_here : Props → List Key → Forest Step Key → TableRow
