@@ -3,3 +3,4 @@ pub mod Seeking
 pub mod Walk
 pub mod Places
 pub mod Surfaces
+pub mod Worked

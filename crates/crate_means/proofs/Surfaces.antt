@@ -1,5 +1,5 @@
 -- The surface of a crate against the walk of a description's tree.
-use Rattle.std.proofs.Common.{ℕ, ◌≡◌, Bool, true, false, cond, List, [], ◌∷◌, ◌++◌, map, flat_map, Option, Some, None, option_map, refl, sym, ap, ap₂, ◌∙◌, append_assoc, append-nil}
+use Rattle.std.proofs.Common.{◌≡◌, Bool, true, false, cond, List, [], ◌∷◌, ◌++◌, map, flat_map, Some, None, option_map, refl, sym, ap, ap₂, ◌∙◌, append_assoc, append-nil}
 use Rattle.std.specs.Prelude.{unwrap_or}
 use Rattle.std.proofs.lemmas.List.{map-append}
 use Rattle.frag_tree.specs.declared.access.Access.{Access}
@@ -21,7 +21,7 @@ use Rattle.table_sem.specs.Names.{Named, accessor_of}
 use Rattle.table_sem.specs.SurfaceWalk.{calls_here, entries_in, entries_of_peripherals, name_inside, peripheral_name}
 use Rattle.table_sem.specs.TableSurface.{entry_of, row_calls}
 use Rattle.table_sem.proofs.Surfaces.{surface_by_walk}
-use Rattle.crate_means.specs.BlockIs.{BlockIs, ChildIs, EachIs, ModuleIs}
+use Rattle.crate_means.specs.BlockIs.{BlockIs, EachIs, ModuleIs}
 use Rattle.crate_means.specs.CrateIs.{EachPeripheral}
 use Rattle.crate_means.specs.Laws.{SameFaults, SameSurface}
 use Rattle.crate_means.specs.RegisterIs.{RegisterIs, row_of}

@@ -1,11 +1,12 @@
 -- Accessors walked through modules, against accessors sought among rows.
-use Rattle.std.proofs.Common.{ℕ, ◌≡◌, ◌+◌, Bool, true, false, cond, List, [], ◌∷◌, Option, Some, None, option_map, option_and_then, bytes_eq, refl, sym, ap, subst, ◌∙◌}
+use Rattle.std.proofs.Common.{ℕ, ◌≡◌, ◌+◌, Bool, true, false, cond, List, [], ◌∷◌, Option, Some, None, option_map, option_and_then, bytes_eq, refl, sym, ap, subst}
 use Rattle.frag_tree.specs.declared.access.Access.{Access}
 use Rattle.frag_tree.specs.declared.register.RegisterModule.{RegisterModule}
 use Rattle.frag_tree.specs.declared.statement.Call.{Call}
 use Rattle.frag_tree.specs.Trees.{BlockTree, ModuleTree, one_block, one_register}
-use Rattle.frag_sem.specs.CallPlaces.{access_named, admits, leads, offset_of, through}
+use Rattle.frag_sem.specs.CallPlaces.{RegisterAt, access_named, admits, leads, offset_of, through}
 use Rattle.frag_sem.specs.Likeness.{BothAlike}
+use Rattle.frag_sem.specs.Meaning.{ActsAt}
 use Rattle.frag_sem.specs.Modules.{module_of}
 use Rattle.frag_sem.specs.TextMeaning.{acts_at}
 use Rattle.reg_table.specs.Registers.{register_row}
@@ -59,10 +60,10 @@ through-one s rest walked unit start outer e access child =
     subst (λ count. BothAlike (option_map acts_at (cond (admits count s.index) there None)) (cond (admits (value_of stated_dim e.keys) s.index) row None)) (sym child.count)
     (by (admits (value_of stated_dim e.keys) s.index) refl)
   where
-    there : Option _
+    there : Option RegisterAt
     there = option_and_then (λ inner. leads rest inner (start + offset_of unit access s.index)) (module_of access.element unit.inside)
 
-    row : Option _
+    row : Option ActsAt
     row = seek rest (member_rows start outer e s.index)
 
     by : (b : Bool) → admits (value_of stated_dim e.keys) s.index ≡ b → BothAlike (option_map acts_at (cond b there None)) (cond b row None)

@@ -1,5 +1,5 @@
 -- When a crate text stands for a description: each peripheral has its slot, and the slot its block (this project's own).
-use Rattle.std.specs.Prelude.{ℕ, ◌≡◌, true, false, List, [], ◌∷◌, Some, None, ⊤}
+use Rattle.std.specs.Prelude.{◌≡◌, true, false, List, [], ◌∷◌, Some, None, ⊤}
 use Rattle.frag_tree.specs.declared.krate.Slot.{Slot}
 use Rattle.frag_tree.specs.Trees.{BlockTree, CrateTree}
 use Rattle.frag_sem.specs.Modules.{are_distinct_names, top_block}

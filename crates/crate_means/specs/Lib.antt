@@ -2,4 +2,5 @@ pub mod Siblings
 pub mod RegisterIs
 pub mod BlockIs
 pub mod CrateIs
+pub mod Worked
 pub mod Laws

@@ -1,5 +1,6 @@
 // The laws of crate texts that stand for descriptions.
 ghost use Rattle.crate_means.specs.Laws.{PlacesAreAlike, SameFaults, SameMeaning, SamePresets, SameSurface};
+ghost use Rattle.crate_means.specs.Worked.{WorkedStands};
 
 /// At each place stands the register of the table's row, at the row's address, or none on both sides.
 pub fn place_law()
@@ -17,4 +18,9 @@ pub fn script_law()
 pub fn surface_law()
     ensures surface { SameSurface }
     ensures faults { SameFaults }
+{}
+
+/// There is such a crate text.
+pub fn worked_law()
+    ensures { WorkedStands }
 {}

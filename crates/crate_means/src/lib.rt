@@ -4,4 +4,4 @@
 
 mod laws;
 
-pub use laws::{place_law, script_law, surface_law};
+pub use laws::{place_law, script_law, surface_law, worked_law};
