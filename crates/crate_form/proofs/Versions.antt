@@ -1,5 +1,5 @@
 -- No register has an array of fields, so each crate is of the first version.
-use Rattle.std.specs.Prelude.{◌≡◌, ℕ, Bool, true, false, ◌||◌, List, [], ◌∷◌, cond, map, Option, is_some, refl, ap, ◌∙◌}
+use Rattle.std.proofs.Common.{◌≡◌, ℕ, Bool, true, false, ◌||◌, List, [], ◌∷◌, cond, map, Option, is_some, refl}
 use Rattle.std.specs.List.{list_any}
 use Rattle.reg_table.specs.Fields.{field_row}
 use Rattle.reg_table.specs.Registers.{register_row}

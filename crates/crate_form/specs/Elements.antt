@@ -58,9 +58,13 @@ pub record FieldIsReady (field : FieldRow) : Type 0 where
 abbrev pub entry_marker : (Sibling × Field) → List ℕ
 entry_marker entry = written_marker entry.0.name
 
--- so is the marker of a declared field, whose name has a byte
+-- a written name has a byte
+abbrev pub HasName : (Sibling × Field) → Type 0
+HasName entry = entry.0.name ≢ []
+
+-- so is the marker of a field
 abbrev pub IsMarked : (Sibling × Field) → Type 0
-IsMarked entry = entry.0.name ≢ [] → IsIdentifier (entry_marker entry)
+IsMarked entry = HasName entry → IsIdentifier (entry_marker entry)
 
 -- ---- what it comes to
 

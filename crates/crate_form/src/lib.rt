@@ -2,6 +2,11 @@
 // that builds it.
 #![tactic(auto)]
 
+mod krate;
 mod laws;
+mod name;
+mod part;
+mod register;
 
-pub use laws::version_law;
+pub use krate::crate_form;
+pub use laws::{form_law, version_law};

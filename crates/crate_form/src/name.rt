@@ -23,7 +23,8 @@ pub(crate) fn identifier(alloc: Global, bytes: &[u8]) -> Result<Identifier, NoMe
 /// The accessor of an element of this written name.
 pub(crate) fn accessor_of(alloc: Global, name: &Name) -> Result<Identifier, NoMemory>
     requires { name.now ≢ [] → IsIdentifier (accessor_name name.now) }
-    ensures { IfOk result (λ made. made ≡ accessor_name name.now) }
+    ensures is { IfOk result (λ made. made ≡ accessor_name name.now) }
+    ensures form { IfOk result IsIdentifier }
 {
     some_name(name);
     let made = accessor(alloc, name)?;
@@ -33,7 +34,8 @@ pub(crate) fn accessor_of(alloc: Global, name: &Name) -> Result<Identifier, NoMe
 /// The slot of a peripheral of this written name.
 pub(crate) fn slot_of(alloc: Global, name: &Name) -> Result<Identifier, NoMemory>
     requires { name.now ≢ [] → IsIdentifier (slot_name_of name.now) }
-    ensures { IfOk result (λ made. made ≡ slot_name_of name.now) }
+    ensures is { IfOk result (λ made. made ≡ slot_name_of name.now) }
+    ensures form { IfOk result IsIdentifier }
 {
     some_name(name);
     let made = slot_name(alloc, name)?;
@@ -54,7 +56,7 @@ pub(crate) fn marker_of(alloc: Global, name: &Name) -> Result<Identifier, NoMemo
 }
 
 // A name has a byte. It does nothing, and is here for the proof alone.
-fn some_name(name: &Name)
+pub(crate) fn some_name(name: &Name)
     ensures { name.now ≢ [] }
 {
     let _bytes = name.bytes();

@@ -1,10 +1,10 @@
 ghost use Rattle.std.specs.Prelude.{◌≡◌, ◌≢◌, [], map, option_map, IfOk};
 ghost use Rattle.std.specs.List.{AllByRecursion};
-ghost use Rattle.crate_form.specs.Elements.{CallIsNamed, FieldIsReady, IsMarked, StandsAlone, entry_marker, register_at};
+ghost use Rattle.crate_form.specs.Elements.{CallIsNamed, FieldIsReady, HasName, IsMarked, StandsAlone, entry_marker, register_at};
 ghost use Rattle.crate_form.specs.Registers.{bit_kind, field_array, field_of, marked, number_call};
 ghost use Rattle.svd_model.specs.Unbuilt.{register_under};
 
-use crate::name::{accessor_of, identifier, marker_of};
+use crate::name::{accessor_of, identifier, marker_of, some_name};
 use frag_tree::{BitKind, Identifier, NumberCall};
 use indexmap::IndexMap;
 use pac_base::{NoMemory, Seq};
@@ -77,7 +77,7 @@ fn fields(
     elements: &IndexMap<Sibling, Declared>,
     rows: &[FieldRow],
 ) -> Result<Seq<Field>, NoMemory>
-    requires names { AllByRecursion IsMarked elements.now.entries }
+    requires marked { AllByRecursion IsMarked elements.now.entries }
     requires ready { AllByRecursion FieldIsReady rows.now }
     ensures { IfOk result (λ made. made ≡ marked (map entry_marker elements.now.entries) rows.now) }
 {
@@ -91,6 +91,15 @@ fn fields(
         left = others;
     }
     Ok(made)
+}
+
+// Each written name has a byte. It does nothing, and is here for the proof alone.
+fn some_names(elements: &IndexMap<Sibling, Declared>)
+    ensures { AllByRecursion HasName elements.now.entries }
+{
+    for (key, _element) in elements {
+        some_name(&key.name);
+    }
 }
 
 /// What the module of a register is made of, inside of which properties `outer` hold.
@@ -108,6 +117,7 @@ pub(crate) fn register_in(
         steps: Seq::new(alloc),
     };
     let row = register_row(alloc, path, 0, element, outer)?;
+    some_names(&element.fields);
     Ok(Register {
         name: accessor_of(alloc, &key.name)?,
         word: row.width,

@@ -1,0 +1,90 @@
+-- What a register and a cluster come to, from their declared parts.
+use Rattle.std.proofs.Common.{◌≡◌, ℕ, ◌*◌, List, [], ◌∷◌, map, unwrap_or, refl, sym, ap, ap₂, ◌∙◌, arith}
+use Rattle.block_form.specs.declared.child.ChildKind.TheVariants as kind
+use Rattle.frag_tree.specs.Trees.{one_block}
+use Rattle.pac_base.specs.declared.width.Width.{Width}
+use Rattle.pac_base.specs.declared.width.Width.TheVariants.{W8, W16, W32, W64}
+use Rattle.pac_base.specs.Widths.{bits_of}
+use Rattle.reg_table.specs.declared.row.Row.{Row as TableRow}
+use Rattle.reg_table.specs.declared.row.RowPath.{RowPath}
+use Rattle.reg_table.specs.Registers.{register_row}
+use Rattle.register_form.specs.declared.register.Field.{Field as MadeField}
+use Rattle.register_form.specs.declared.register.Register.{Register as MadeRegister}
+use Rattle.svd_model.specs.declared.device.Cluster.{Cluster, out-Cluster}
+use Rattle.svd_model.specs.declared.device.Register.{Register}
+use Rattle.svd_model.specs.declared.props.Props.{Props}
+use Rattle.svd_model.specs.declared.sibling.Sibling.{Sibling}
+use Rattle.svd_model.specs.Checking.{bytes_of}
+use Rattle.svd_model.specs.Keys.{Key}
+use Rattle.svd_model.specs.Properties.{holding, register_properties}
+use Rattle.svd_model.specs.Steps.{Step, cluster}
+use Rattle.svd_model.specs.Trees.{item_under, register_tree}
+use Rattle.svd_model.specs.Unbuilt.{cluster_under, register_under}
+use Rattle.svd_model.proofs.Stated.{cluster-dim, cluster-increment, cluster-offset, register-dim, register-increment, register-offset}
+use Rattle.svd_rows.specs.Forest.{Tree, siblings}
+use Rattle.svd_rows.specs.Rows.{rows}
+use Rattle.svd_values.specs.AccessorNames.{accessor_name}
+use Rattle.crate_form.specs.Children.{array_of, child_with, children_of, inside_extent, register_extent}
+use Rattle.crate_form.specs.Elements.{child_at, entry_marker, module_at, register_at}
+use Rattle.crate_form.specs.Modules.{head_of, modules_of}
+use Rattle.crate_form.specs.Registers.{marked}
+use Rattle.crate_form.proofs.Named.{markers-entries}
+use Rattle.crate_form.proofs.Standing.{props-cluster, props-register, tree-cluster}
+
+-- ---- a register
+
+pub bytes-is : (width : Width) (n : ℕ) → 8 * n ≡ bits_of width → n ≡ bytes_of width
+bytes-is W8 n is = omega (arith, is)
+bytes-is W16 n is = omega (arith, is)
+bytes-is W32 n is = omega (arith, is)
+bytes-is W64 n is = omega (arith, is)
+
+module _ (outer : Props) (key : Sibling) (r : Register) where
+  pub child-register : child_at outer (register_under key r) ≡ child_with (accessor_name key.name) kind.Register r.offset (array_of r.dim.count r.dim.step) (register_extent (register_properties r outer))
+  child-register = λ i. child_with (accessor_name key.name) kind.Register (unwrap_or (register-offset r i) 0) (array_of (register-dim r i) (register-increment r i)) (register_extent (props-register outer key r i))
+
+  -- a register that is put together of the parts of its row, which has some path
+  pub register-made : (path : RowPath) (row : TableRow) (name : List ℕ) (fields : List MadeField) → row ≡ register_row path 0 (register_properties r outer) (rows (register_tree r)) → name ≡ accessor_name key.name → fields ≡ marked (map entry_marker r.fields.entries) row.fields
+      → ◌≡◌ {A = MadeRegister} (record {
+        name = name;
+        word = row.width;
+        readable = row.readable;
+        writable = row.writable;
+        reset = row.reset;
+        one = row.one;
+        zero = row.zero;
+        fields = fields;
+      }) (register_at outer (register_under key r))
+  unfolding register_row
+  register-made path row name fields is named made =
+      let here = is ∙ ap (λ props. register_row path 0 props (rows (register_tree r))) (sym (props-register outer key r)) in
+      let all = made ∙ ap₂ marked (sym (markers-entries r.fields.entries)) (ap (λ (row : TableRow). row.fields) here) in
+      λ i. record {
+        name = named i;
+        word = (here i).width;
+        readable = (here i).readable;
+        writable = (here i).writable;
+        reset = (here i).reset;
+        one = (here i).one;
+        zero = (here i).zero;
+        fields = all i;
+      }
+
+-- ---- a cluster
+
+module _ (outer : Props) (key : Sibling) (c : Cluster) where
+  abbrev inner : Props
+  inner = holding ((out-Cluster c).props ∷ outer ∷ [])
+
+  pub child-cluster : child_at outer (cluster_under key c) ≡ child_with (accessor_name key.name) kind.Block (out-Cluster c).offset (array_of (out-Cluster c).dim.count (out-Cluster c).dim.step) (inside_extent (children_of inner (siblings (map item_under (out-Cluster c).children.items))))
+  child-cluster =
+      ap (child_at outer) (tree-cluster outer key c)
+      ∙ λ i. child_with (accessor_name key.name) kind.Block (unwrap_or (cluster-offset (out-Cluster c) i) 0) (array_of (cluster-dim (out-Cluster c) i) (cluster-increment (out-Cluster c) i)) (inside_extent (children_of (props-cluster outer key c i) (siblings (map item_under (out-Cluster c).children.items))))
+
+  pub unit-cluster : module_at outer (cluster_under key c) ≡ one_block (record { head = head_of (accessor_name key.name) (children_of inner (siblings (map item_under (out-Cluster c).children.items))); inside = modules_of inner (siblings (map item_under (out-Cluster c).children.items)) })
+  unit-cluster =
+      ap (module_at outer) (tree-cluster outer key c)
+      ∙ λ i. one_block (record {
+        head = head_of (accessor_name key.name) (children_of (props-cluster outer key c i) (siblings (map item_under (out-Cluster c).children.items)));
+        inside = modules_of (props-cluster outer key c i) (siblings (map item_under (out-Cluster c).children.items));
+      })
