@@ -6,7 +6,7 @@ use Rattle.reg_table.specs.Walk.{props_inside}
 use Rattle.svd_model.specs.declared.props.Props.{Props}
 use Rattle.svd_model.specs.Keys.{Key}
 use Rattle.svd_model.specs.Stating.{is_of, value_of, stated_base, stated_dim}
-use Rattle.svd_model.specs.Steps.{Step, Kind, cluster, register}
+use Rattle.svd_model.specs.Steps.{Step, cluster, register}
 use Rattle.svd_rows.specs.Forest.{Forest, leaf, node}
 
 -- an array has 1 to 65,536 members

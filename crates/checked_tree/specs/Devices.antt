@@ -7,8 +7,8 @@ use Rattle.frag_sem.specs.Modules.{are_distinct_names}
 use Rattle.reg_table.specs.Walk.{props_inside}
 use Rattle.svd_model.specs.declared.props.Props.{Props}
 use Rattle.svd_model.specs.Keys.{Key}
-use Rattle.svd_model.specs.Stating.{value_of, start_of, stated_base, stated_dim, stated_offset}
-use Rattle.svd_model.specs.Steps.{Step, Kind, peripheral}
+use Rattle.svd_model.specs.Stating.{value_of, start_of, stated_base, stated_dim}
+use Rattle.svd_model.specs.Steps.{Step, peripheral}
 use Rattle.svd_rows.specs.Forest.{Forest, leaf, node}
 use Rattle.svd_values.specs.AccessorNames.{slot_name_of}
 use Rattle.rust_names.specs.Identifiers.{IsIdentifier}

@@ -1,5 +1,5 @@
 -- What checking says of a register, wherever it stands.
-use Rattle.std.specs.Prelude.{ℕ, ◌≡◌, ◌≢◌, ◌≤◌, true, false, List, [], map, None}
+use Rattle.std.specs.Prelude.{◌≡◌, ◌≢◌, ◌≤◌, true, false, List, [], map, None}
 use Rattle.std.specs.List.{AllByRecursion}
 use Rattle.checked_tree.specs.Kinds.{AreFields}
 use Rattle.checked_tree.specs.Names.{AreSiblings, HasAccessor, accessor_names, marker_names, marker_of}
