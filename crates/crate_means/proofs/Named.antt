@@ -1,16 +1,21 @@
 -- Elements among siblings by their names, and what stands for them.
-use Rattle.std.proofs.Common.{ℕ, ◌≡◌, Bool, true, false, not, cond, List, Option, Some, None, option_and_then, bytes_eq, refl, ap, ◌∙◌}
+use Rattle.std.proofs.Common.{ℕ, ◌≡◌, Bool, true, false, not, cond, ◌||◌, List, [], ◌∷◌, map, Option, Some, None, option_and_then, bytes_eq, refl, sym, ap, subst, ◌∙◌}
 use Rattle.std.specs.Prelude.{⊤}
 use Rattle.std.specs.Option.{option_or}
-use Rattle.std.specs.List.{list_any}
+use Rattle.std.specs.List.{AllByRecursion, list_any}
 use Rattle.std.proofs.lemmas.Bool.{not-true, or_parts}
 use Rattle.std.proofs.lemmas.Slice.Eq.{bytes_eq-Decides}
 use Rattle.frag_sem.specs.Modules.{are_distinct}
 use Rattle.frag_sem.proofs.Lists.{both_true}
 use Rattle.svd_model.specs.Keys.{Key}
-use Rattle.svd_model.specs.Steps.{Step}
+use Rattle.svd_model.specs.Steps.{Kind, Step, cluster, field, peripheral, register, same_kind, set, value}
 use Rattle.svd_rows.specs.Forest.{Forest, leaf, node, steps}
-use Rattle.crate_means.specs.Siblings.{names_by}
+use Rattle.checked_tree.specs.Kinds.{AreFields, AreOf}
+use Rattle.table_sem.specs.Names.{is_named}
+
+-- the names of siblings in order, each made of the written one: accessors, or the slots of peripherals
+abbrev pub names_by : (List ℕ → List ℕ) → Forest Step Key → List (List ℕ)
+names_by name_of siblings = map (λ step. name_of step.name) (steps siblings)
 
 pub record Element : Type 0 where
   pub step : Step
@@ -76,3 +81,25 @@ first-pair Is true true same e a is o p more = is
 first-pair Is true false same e a is o p more = absurd cc
 first-pair Is false true same e a is o p more = absurd cc
 first-pair Is false false same e a is o p more = more
+
+-- ---- siblings without an accessor
+
+-- among siblings and below them is no peripheral, no cluster and no register
+unfoldable pub NoneNamed : Forest Step Key → Type 0
+NoneNamed leaf = ⊤
+NoneNamed (node step keys children others) = (is_named step ≡ false) × NoneNamed children × NoneNamed others
+
+-- no element of the kind has an accessor
+abbrev IsUnnamed : Kind → Type 0
+IsUnnamed kind = (same_kind peripheral kind || (same_kind cluster kind || same_kind register kind)) ≡ false
+
+none-of : (kinds : List Kind) → AllByRecursion IsUnnamed kinds → (f : Forest Step Key) → AreOf kinds f → NoneNamed f
+unfolding AreOf NoneNamed
+none-of [] all leaf are = tt
+none-of [] all (node step keys children others) are = subst NoneNamed (sym are) tt
+none-of (kind ∷ below) all leaf are = tt
+none-of (kind ∷ below) all (node step keys children others) are = (subst IsUnnamed (sym are.0) all.0, none-of below all.1 children are.1, none-of (kind ∷ below) all others are.2)
+
+-- nor has a field, or what is below it
+pub none_named : (f : Forest Step Key) → AreFields f → NoneNamed f
+none_named f are = none-of (field ∷ set ∷ value ∷ []) (refl, (refl, (refl, tt))) f are

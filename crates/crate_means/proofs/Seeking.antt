@@ -27,8 +27,7 @@ use Rattle.table_sem.specs.Names.{is_named}
 use Rattle.table_sem.specs.RowActs.{row_acts, row_found}
 use Rattle.table_sem.specs.TableMeaning.{place_of}
 use Rattle.table_sem.specs.TableSurface.{no_path}
-use Rattle.crate_means.specs.Siblings.{NoneNamed, names_by}
-use Rattle.crate_means.proofs.Named.{Element, element_named, sought, sought-named}
+use Rattle.crate_means.proofs.Named.{Element, NoneNamed, element_named, names_by, sought, sought-named}
 
 -- ---- rows as they are seen from a block
 

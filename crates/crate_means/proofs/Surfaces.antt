@@ -21,11 +21,12 @@ use Rattle.table_sem.specs.Names.{Named, accessor_of}
 use Rattle.table_sem.specs.SurfaceWalk.{calls_here, entries_in, entries_of_peripherals, name_inside, peripheral_name}
 use Rattle.table_sem.specs.TableSurface.{entry_of, row_calls}
 use Rattle.table_sem.proofs.Surfaces.{surface_by_walk}
+use Rattle.checked_tree.specs.Registers.{row_of}
 use Rattle.crate_means.specs.BlockIs.{BlockIs, EachIs, ModuleIs}
 use Rattle.crate_means.specs.CrateIs.{EachPeripheral}
 use Rattle.crate_means.specs.Laws.{SameFaults, SameSurface}
-use Rattle.crate_means.specs.RegisterIs.{RegisterIs, row_of}
-use Rattle.crate_means.specs.Siblings.{NoneNamed}
+use Rattle.crate_means.specs.RegisterIs.{RegisterIs}
+use Rattle.crate_means.proofs.Named.{NoneNamed, none_named}
 
 -- what lies below a name, as an entry
 abbrev entry_below : Named → Below → Entry
@@ -62,7 +63,7 @@ entry_by is_register name props keys children = entry_of name (cond is_register 
 in-module : (b : Bool) (name : Named) (props : Props) (keys : List Key) (children : Forest Step Key) → ((unit : BlockTree) → BlockIs props children unit → map (entry_below name) (below_accessors unit unit.head.accessors) ≡ entries_in name props children) → (inner : ModuleTree) → ModuleIs b (RegisterIs props keys children) (BlockIs props children) inner → map (entry_below name) (below_module inner) ≡ entry_by b name props keys children ∷ entries_in name props children
 in-module true name props keys children block (one_register unit) is =
     ap₂ (λ steps calls. record { slot = name.slot; below = record { steps = steps; register = Some calls } } ∷ []) (append-nil name.accessors) is.calls
-    ∙ ap (λ entries. entry_by true name props keys children ∷ entries) (sym (none-named name props children is.fields))
+    ∙ ap (λ entries. entry_by true name props keys children ∷ entries) (sym (none-named name props children (none_named children is.fields)))
 in-module true name props keys children block (one_block unit) is = absurd is
 in-module false name props keys children block (one_register unit) is = absurd is
 in-module false name props keys children block (one_block unit) is =

@@ -20,7 +20,7 @@ use Rattle.svd_values.specs.AccessorNames.{accessor_name}
 use Rattle.table_sem.specs.RowActs.{row_acts}
 use Rattle.crate_means.specs.BlockIs.{BlockIs, ChildIs, EachIs, ModuleIs}
 use Rattle.crate_means.specs.RegisterIs.{RegisterIs}
-use Rattle.crate_means.proofs.Named.{Element, Paired, element_named, first-pair}
+use Rattle.crate_means.proofs.Named.{Element, Paired, element_named, first-pair, none_named}
 use Rattle.crate_means.proofs.Seeking.{in_member, member_here, member_rows, no-rows, rows_here, seek, seek-here, seek-nowhere}
 
 -- an accessor of the block is that of an element
@@ -44,7 +44,7 @@ at-register : (rest : List Call) (unit : RegisterModule) (address : ℕ) (props 
 unfolding leads BothAlike register_row row_acts
 at-register [] unit address props keys children is = record { address = refl; acts = is.acts }
 at-register (s ∷ rest) unit address props keys children is =
-    subst (λ inner. BothAlike None (seek (s ∷ rest) (member_here address props true keys children inner))) (sym (no-rows address props children is.fields)) tt
+    subst (λ inner. BothAlike None (seek (s ∷ rest) (member_here address props true keys children inner))) (sym (no-rows address props children (none_named children is.fields))) tt
 
 -- in the module of an element
 in-module : (rest : List Call) → Walked rest → (props : Props) (address : ℕ) (keys : List Key) (children : Forest Step Key) (b : Bool) (inner : ModuleTree) → ModuleIs b (RegisterIs props keys children) (BlockIs props children) inner → BothAlike (option_map acts_at (leads rest inner address)) (seek rest (member_here address props b keys children (rows_here address props children)))

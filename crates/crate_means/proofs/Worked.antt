@@ -31,10 +31,11 @@ use Rattle.svd_rows.specs.Rows.{forest_rows, is_element, own, rows, under}
 use Rattle.table_sem.specs.RowActs.{row_acts}
 use Rattle.table_sem.specs.TableSurface.{no_path, row_calls}
 use Rattle.table_sem.proofs.StartNumbers.{start_is_one}
+use Rattle.checked_tree.specs.Kinds.{AreOf}
+use Rattle.checked_tree.specs.Registers.{row_of}
 use Rattle.crate_means.specs.BlockIs.{BlockIs, EachIs}
 use Rattle.crate_means.specs.CrateIs.{EachPeripheral}
-use Rattle.crate_means.specs.RegisterIs.{RegisterIs, row_of}
-use Rattle.crate_means.specs.Siblings.{NoneNamed}
+use Rattle.crate_means.specs.RegisterIs.{RegisterIs}
 use Rattle.crate_means.specs.Worked.{WorkedStands, both_clusters, cluster_block, in_cluster, in_peripheral, no_props, one_register, peripheral_block, plain_register}
 
 -- ---- registers
@@ -63,7 +64,7 @@ plain-alike name = record {
 }
 
 plain-is : (name : List ℕ) (props : Props) (keys : List Key) → row_of props keys leaf ≡ plain_row → RegisterIs props keys leaf (plain_register name)
-unfolding NoneNamed register_calls row_calls
+unfolding AreOf register_calls row_calls
 plain-is name props keys is = record {
   acts = subst (λ row. Alike (text_acts (plain_register name)) (row_acts row)) (sym is) (plain-alike name);
   calls = subst (λ row. register_calls (plain_register name) ≡ row_calls row) (sym is) refl;

@@ -13,8 +13,8 @@ use Rattle.svd_model.specs.Steps.{Step, register}
 use Rattle.svd_rows.specs.Forest.{Forest, leaf, node}
 use Rattle.svd_values.specs.AccessorNames.{accessor_name}
 use Rattle.table_sem.specs.Names.{is_named}
+use Rattle.checked_tree.specs.Names.{accessor_names}
 use Rattle.crate_means.specs.RegisterIs.{RegisterIs}
-use Rattle.crate_means.specs.Siblings.{names_by}
 
 -- a register has a register module, any other element a block
 abbrev pub ModuleIs : Bool → (RegisterModule → Type 0) → (BlockTree → Type 0) → ModuleTree → Type 0
@@ -35,7 +35,7 @@ pub record ChildIs (unit : BlockTree) (step : Step) (keys : List Key) (Inner : M
 
 -- the children have distinct accessors, and these are the accessors of the block, one for each child
 pub record BlockOf (children : Forest Step Key) (Each : BlockTree → List Access → Type 0) (unit : BlockTree) : Type 0 where
-  pub distinct : are_distinct_names (names_by accessor_name children) ≡ true
+  pub distinct : are_distinct_names (accessor_names children) ≡ true
   pub each : Each unit unit.head.accessors
 
 -- siblings and accessors of a block side by side, where these properties hold round the siblings; so for all below them

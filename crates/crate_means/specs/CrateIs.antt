@@ -13,8 +13,8 @@ use Rattle.svd_model.specs.Trees.{device_tree}
 use Rattle.svd_rows.specs.Forest.{Forest, leaf, node}
 use Rattle.svd_values.specs.AccessorNames.{slot_name_of}
 use Rattle.table_sem.specs.Names.{is_named}
+use Rattle.checked_tree.specs.Names.{slot_names}
 use Rattle.crate_means.specs.BlockIs.{BlockIs}
-use Rattle.crate_means.specs.Siblings.{names_by}
 
 -- A slot is that of a peripheral: it has its name and its base address, and leads to a block that stands for what the peripheral holds.
 pub record PeripheralIs (krate : CrateTree) (step : Step) (keys : List Key) (Inner : BlockTree → Type 0) (slot : Slot) : Type 0 where
@@ -36,7 +36,7 @@ EachPeripheral outer (node step keys children others) krate (slot ∷ slots) =
 
 -- the peripherals have distinct slots, and these are the slots of the crate, one for each peripheral
 pub record CrateOf (outer : Props) (peripherals : Forest Step Key) (krate : CrateTree) : Type 0 where
-  pub distinct : are_distinct_names (names_by slot_name_of peripherals) ≡ true
+  pub distinct : are_distinct_names (slot_names peripherals) ≡ true
   pub each : EachPeripheral outer peripherals krate krate.slots
 
 -- the crate stands for the device

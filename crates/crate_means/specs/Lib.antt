@@ -1,4 +1,3 @@
-pub mod Siblings
 pub mod RegisterIs
 pub mod BlockIs
 pub mod CrateIs

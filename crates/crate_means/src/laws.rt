@@ -1,5 +1,5 @@
 // The laws of crate texts that stand for descriptions.
-ghost use Rattle.crate_means.specs.Laws.{PlacesAreAlike, SameFaults, SameMeaning, SamePresets, SameSurface};
+ghost use Rattle.crate_means.specs.Laws.{EmittedFaults, EmittedMeaning, EmittedPlaces, EmittedPresets, EmittedStands, EmittedSurface, PlacesAreAlike, SameFaults, SameMeaning, SamePresets, SameSurface};
 ghost use Rattle.crate_means.specs.Worked.{WorkedStands};
 
 /// At each place stands the register of the table's row, at the row's address, or none on both sides.
@@ -23,4 +23,15 @@ pub fn surface_law()
 /// There is such a crate text.
 pub fn worked_law()
     ensures { WorkedStands }
+{}
+
+/// The crate that is emitted for a checked description stands for it: so it is laid out as the table has it, and
+/// scripts fit and mean against it what they do against the table.
+pub fn emitted_law()
+    ensures stands { EmittedStands }
+    ensures places { EmittedPlaces }
+    ensures surface { EmittedSurface }
+    ensures faults { EmittedFaults }
+    ensures meaning { EmittedMeaning }
+    ensures presets { EmittedPresets }
 {}
