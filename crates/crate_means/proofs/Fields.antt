@@ -1,10 +1,9 @@
 -- A field of a row, against the field that is made of it with its marker.
-use Rattle.std.proofs.Common.{ℕ, suc, ◌≡◌, ◌+◌, ◌%◌, ◌^◌, ◌<◌, ◌≤◌, Bool, true, false, ◌==◌, cond, List, [], ◌∷◌, ◌++◌, length, map, filter, find, Option, Some, None, option_map, bytes_eq, refl, sym, ap, ap₂, subst, ◌∙◌, arith, mod-eq_of_lt}
-use Rattle.std.specs.Prelude.{codes, unwrap_or, ⊤}
-use Rattle.std.specs.List.{AllByRecursion, zip}
+use Rattle.std.proofs.Common.{ℕ, ◌≡◌, ◌+◌, ◌^◌, ◌<◌, ◌≤◌, Bool, true, false, ◌==◌, cond, List, [], ◌∷◌, ◌++◌, length, map, find, Option, Some, None, option_map, bytes_eq, refl, sym, ap, ap₂, subst, ◌∙◌, arith, mod-eq_of_lt}
+use Rattle.std.specs.Prelude.{codes}
+use Rattle.std.specs.List.{zip}
 use Rattle.bits_word.specs.Places.{get, put}
 use Rattle.pac_base.specs.Widths.{bits_of}
-use Rattle.frag_tree.specs.declared.event.Said.{Said}
 use Rattle.frag_tree.specs.declared.event.Said.TheVariants.{Number, Truth}
 use Rattle.frag_sem.proofs.Lists.{found_map}
 use Rattle.reg_table.specs.declared.row.Call.{Call}
@@ -16,7 +15,7 @@ use Rattle.register_form.specs.Doings.{bit_in, compared, field_got, field_put, l
 use Rattle.register_form.specs.Doings as form
 use Rattle.svd_values.specs.declared.schema_word.WriteKind.{WriteKind}
 use Rattle.svd_values.specs.declared.schema_word.WriteKind.TheVariants as kind
-use Rattle.table_sem.specs.Members.{IsIndexOf, member_at, member_behind, member_count, member_get, member_put}
+use Rattle.table_sem.specs.Members.{IsIndexOf, member_at, member_behind, member_count, member_get}
 use Rattle.table_sem.specs.Methods.{ReadMethod, WriteMethod, bit_tests, bit_writes, is_bit, read_methods, read_methods_by, tests_for, write_methods, write_methods_by, writes}
 use Rattle.table_sem.specs.RowActs.{field_said, number_put, said_of}
 use Rattle.table_sem.specs.RowActs as row_acts

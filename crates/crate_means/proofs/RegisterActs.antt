@@ -1,5 +1,5 @@
 -- The module of a register does with words what its row says.
-use Rattle.std.proofs.Common.{ℕ, ◌≡◌, ◌+◌, ◌^◌, ◌<◌, ◌≤◌, Bool, true, false, cond, List, [], ◌∷◌, length, map, filter, find, Option, Some, None, IfSome, option_map, bytes_eq, refl, sym, ap, ap₂, subst, ◌∙◌, arith}
+use Rattle.std.proofs.Common.{ℕ, ◌≡◌, ◌+◌, ◌^◌, ◌<◌, ◌≤◌, Bool, true, false, cond, List, [], ◌∷◌, length, map, filter, find, Option, Some, None, IfSome, option_map, bytes_eq, refl, sym, ap, subst, ◌∙◌, arith}
 use Rattle.std.specs.Prelude.{unwrap_or}
 use Rattle.std.specs.List.{AllByRecursion, zip}
 use Rattle.pac_base.specs.declared.width.Width.{Width}
@@ -16,18 +16,17 @@ use Rattle.reg_table.specs.declared.row.FieldRow.{FieldRow}
 use Rattle.reg_table.specs.declared.row.Row.{Row as TableRow}
 use Rattle.register_form.specs.declared.register.Field.{Field}
 use Rattle.register_form.specs.declared.register.Register.{Register}
-use Rattle.register_form.specs.Doings.{CallsFit, FieldIsSound, RegisterIsSound, field_got, field_put, lowest_bit, readable_named, writable_named}
+use Rattle.register_form.specs.Doings.{CallsFit, FieldIsSound, RegisterIsSound, field_got, field_put, lowest_bit}
 use Rattle.register_form.specs.Forms.{form_of, masks_of, markers_of, where_true}
-use Rattle.register_form.proofs.Among.{Among, all_among, all_found, among_filter}
+use Rattle.register_form.proofs.Among.{all_found}
 use Rattle.register_form.proofs.Words.{fields_give, fields_put, starts_are}
 use Rattle.svd_rows.proofs.Lists.{filter-map, map-map}
-use Rattle.table_sem.specs.Members.{member_at}
 use Rattle.table_sem.specs.RowActs.{readable_fields, row_acts, writable_fields}
 use Rattle.table_sem.specs.RowActs as row_words
 use Rattle.table_sem.specs.RowFacts.{FieldFits, RowFits}
 use Rattle.table_sem.proofs.Runs.{row_keeps_words}
 use Rattle.table_sem.proofs.StartNumbers.{start_is_one}
-use Rattle.crate_form.specs.Registers.{field_of, marked, number_call, register_of}
+use Rattle.crate_form.specs.Registers.{number_call, register_of}
 use Rattle.crate_means.proofs.Fields.{Part, fields_made, fields_told, given_same, made, markers_told, place_same, put_same, told, within_row}
 
 -- ---- likeness

@@ -1,14 +1,13 @@
 -- The module of a register offers the calls of its row.
-use Rattle.std.proofs.Common.{ℕ, ◌≡◌, Bool, true, false, cond, ◌==◌, ◌⊎◌, inl, inr, List, [], ◌∷◌, ◌++◌, map, filter, Option, Some, None, option_map, is_some, refl, sym, ap, ap₂, subst, ◌∙◌}
+use Rattle.std.proofs.Common.{ℕ, ◌≡◌, Bool, true, false, cond, inl, inr, List, [], ◌∷◌, ◌++◌, map, filter, Option, Some, None, option_map, is_some, refl, sym, ap, ap₂, subst, ◌∙◌}
 use Rattle.std.specs.Prelude.{codes, nat_le}
 use Rattle.std.proofs.lemmas.List.{map-append}
-use Rattle.pac_base.specs.declared.width.Width.{Width}
 use Rattle.pac_base.specs.declared.width.Width.TheVariants.{W8, W16, W32, W64}
 use Rattle.frag_tree.specs.declared.register.RegisterModule.{RegisterModule}
 use Rattle.frag_sem.specs.PreludeCalls as prelude
 use Rattle.frag_sem.specs.ProxyTypes.{bit_reader, bit_writer, field_reader, field_writer, number_calls, numbers_on, read_type, readers_of, truth_calls, truths_on, write_type, writers_of}
 use Rattle.frag_sem.specs.Spots.{read_spot, spot_count, write_spot}
-use Rattle.frag_sem.specs.Surfaces.{ReadCall, WriteCall, number, truth}
+use Rattle.frag_sem.specs.Surfaces.{WriteCall, number, truth}
 use Rattle.frag_sem.specs.TextSurface.{plain_call, read_field, register_calls, test_call, write_field}
 use Rattle.frag_sem.specs.TextSurface as text
 use Rattle.frag_sem.proofs.Picking.{map-same}

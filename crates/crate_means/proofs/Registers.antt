@@ -1,13 +1,12 @@
 -- The register module that is emitted for a checked register stands for its row.
-use Rattle.std.proofs.Common.{ℕ, suc, ◌≡◌, Bool, true, false, ◌||◌, List, [], ◌∷◌, length, map, Option, None, refl, sym, ap, subst, ◌∙◌}
+use Rattle.std.proofs.Common.{suc, ◌≡◌, List, [], ◌∷◌, length, map, None, refl, sym, ap, ◌∙◌}
 use Rattle.std.specs.List.{AllByRecursion}
-use Rattle.frag_tree.specs.declared.register.RegisterModule.{RegisterModule}
 use Rattle.reg_table.specs.declared.row.FieldRow.{FieldRow}
 use Rattle.register_form.specs.Forms.{form_of}
 use Rattle.svd_model.specs.declared.props.Props.{Props}
 use Rattle.svd_model.specs.Keys.{Key}
-use Rattle.svd_model.specs.Steps.{Kind, Step, cluster, field, peripheral, register, same_kind, set, value}
-use Rattle.svd_rows.specs.Forest.{Forest, leaf, node, steps}
+use Rattle.svd_model.specs.Steps.{Step}
+use Rattle.svd_rows.specs.Forest.{Forest, steps}
 use Rattle.svd_values.specs.AccessorNames.{accessor_name}
 use Rattle.checked_tree.specs.Registers.{FieldIsNamed, RegisterIsChecked, row_of}
 use Rattle.crate_form.specs.Registers.{markers_of, register_here, written_marker}
