@@ -5,3 +5,4 @@ pub mod Blocks
 pub mod Places
 pub mod Devices
 pub mod Laws
+pub mod Worked

@@ -25,7 +25,7 @@ use Rattle.svd_values.specs.Identifiers.{IsCallName}
 use Rattle.table_sem.specs.Members.{IsIndexOf}
 use Rattle.table_sem.specs.RowFacts.{FieldFits}
 use Rattle.crate_form.specs.Elements.{CallIsNamed, FieldIsReady, HasName, IsMarked, StandsAlone, entry_marker, register_at}
-use Rattle.crate_form.specs.Registers.{marked, markers_of, row_here}
+use Rattle.crate_form.specs.Registers.{field_of, marked, markers_of, row_here}
 use Rattle.crate_form.proofs.Standing.{checked-register}
 
 -- ---- fields as they are declared
@@ -44,6 +44,21 @@ pub markers-entries : (entries : List (Sibling × Field)) → markers_of (siblin
 unfolding steps siblings
 markers-entries [] = refl
 markers-entries (entry ∷ entries) = ap (λ markers. entry_marker entry ∷ markers) (markers-entries entries)
+
+-- ---- fields with their markers
+
+pub marked-no_markers : (rows : List FieldRow) → marked [] rows ≡ []
+unfolding marked
+marked-no_markers rows = refl
+
+pub marked-no_rows : (markers : List (List ℕ)) → marked markers [] ≡ []
+unfolding marked
+marked-no_rows [] = refl
+marked-no_rows (marker ∷ markers) = refl
+
+pub marked-first : (marker : List ℕ) (markers : List (List ℕ)) (row : FieldRow) (rows : List FieldRow) → marked (marker ∷ markers) (row ∷ rows) ≡ field_of marker row ∷ marked markers rows
+unfolding marked
+marked-first marker markers row rows = refl
 
 -- ---- their rows
 

@@ -28,7 +28,7 @@ use Rattle.crate_form.specs.Elements.{Stand}
 
 -- ---- members
 
-count_in : Option Array → Option ℕ
+abbrev count_in : Option Array → Option ℕ
 count_in array = option_map (λ (array : Array). array.count) array
 
 some_members : (dim increment : Option ℕ) → IsCount dim → has_members (count_in (array_of dim increment)) ≡ true

@@ -17,11 +17,11 @@ use Rattle.svd_model.specs.declared.sibling.Sibling.{Sibling}
 use Rattle.svd_model.specs.Checking.{bytes_of, width_of}
 use Rattle.svd_model.specs.Keys.{Key}
 use Rattle.svd_model.specs.Properties.{holding, register_properties, size_at}
-use Rattle.svd_model.specs.Stating.{start_of, value_of, stated_base, stated_offset}
+use Rattle.svd_model.specs.Stating.{start_of, stated_increment, value_of}
 use Rattle.svd_model.specs.Steps.{Step, cluster}
 use Rattle.svd_model.specs.Trees.{cluster_places, item_under, peripheral_places, peripheral_under, register_places, register_tree, step_of}
 use Rattle.svd_model.specs.Unbuilt.{cluster_under, register_under}
-use Rattle.svd_model.proofs.Stated.{cluster-base, cluster-offset, cluster-props, peripheral-props, register-props}
+use Rattle.svd_model.proofs.Stated.{cluster-base, cluster-offset, cluster-props, peripheral-base, peripheral-props, register-props}
 use Rattle.svd_model.proofs.Trees.{cluster_tree-is}
 use Rattle.svd_rows.specs.Forest.{Forest, Tree, siblings}
 use Rattle.svd_rows.specs.Ranks.{stated}
@@ -78,7 +78,7 @@ module _ (outer : Props) (key : Sibling) (c : Cluster) where
   -- it begins at an address
   pub offset-cluster : StandsAlone outer (cluster_under key c) → (out-Cluster c).offset < 2 ^ 64
   offset-cluster stand =
-      let begins : start_of keys None ≡ 0 + (out-Cluster c).offset + 0 = λ i. unwrap_or (cluster-base (out-Cluster c) i) 0 + unwrap_or (cluster-offset (out-Cluster c) i) 0 + 0 in
+      let begins : start_of keys None ≡ 0 + (out-Cluster c).offset + 0 * unwrap_or (value_of stated_increment keys) 0 = λ i. unwrap_or (cluster-base (out-Cluster c) i) 0 + unwrap_or (cluster-offset (out-Cluster c) i) 0 + 0 * unwrap_or (value_of stated_increment keys) 0 in
       let at = offset-here (subst (StandsAlone outer) tree-cluster stand) in
       omega (arith, begins, at)
 
@@ -126,6 +126,10 @@ module _ (outer : Props) (key : Sibling) (p : Peripheral) where
 
   pub stand-peripheral : IsPeripheral outer (peripheral_under (key, p)) → Stand (holding (p.props ∷ outer ∷ [])) (siblings (map item_under p.children.items))
   stand-peripheral is = subst (λ (q : Props). Stand q (siblings (map item_under p.children.items))) props-peripheral (inside-peripheral is)
+
+  -- its base is an address
+  pub base-peripheral : IsPeripheral outer (peripheral_under (key, p)) → p.base < 2 ^ 64
+  base-peripheral is = subst (λ (n : ℕ). n < 2 ^ 64) (ap (λ (base : Option ℕ). unwrap_or base 0) (peripheral-base p)) is.checked.base
 
 -- each of them
 pub peripheral-first : (outer : Props) (x : Step × Tree Step Key) (xs : List (Step × Tree Step Key)) → FitIn 0 outer (siblings (x ∷ xs)) → ArePeripherals outer (siblings (x ∷ xs)) → IsPeripheral outer x

@@ -1,4 +1,4 @@
-ghost use Rattle.std.specs.Prelude.{◌≡◌, ◌∷◌, [], true, map, IfOk};
+ghost use Rattle.std.specs.Prelude.{◌≡◌, ◌<◌, ◌^◌, ◌∷◌, [], true, IfOk};
 ghost use Rattle.crate_form.specs.Crates.{emitted, slot_of};
 ghost use Rattle.crate_form.specs.Elements.{AllStand, IsPeripheral, block_at};
 ghost use Rattle.crate_form.specs.Parts.{IsBlock};
@@ -8,7 +8,7 @@ ghost use Rattle.svd_model.specs.Properties.{holding};
 ghost use Rattle.svd_model.specs.Trees.{peripheral_under};
 
 use crate::name::{accessor_of, slot_of};
-use crate::part::{block, parts};
+use crate::part::{block, parts_of};
 use block_form::block_form;
 use frag_tree::{Block, Crate, Slot, Version};
 use pac_base::{NoMemory, Seq};
@@ -46,8 +46,16 @@ fn slot(alloc: Global, key: &Sibling, peripheral: &Peripheral, outer: &Props) ->
     Ok(Slot {
         name: slot_of(alloc, &key.name)?,
         block: accessor_of(alloc, &key.name)?,
-        address: peripheral.base as u64,
+        address: address(peripheral.base),
     })
+}
+
+/// The address of a peripheral's first byte.
+fn address(base: u128) -> u64
+    requires { base < 2 ^ 64 }
+    ensures { result ≡ base }
+{
+    base as u64
 }
 
 /// The block module of a peripheral of a device in which properties `outer` hold.
@@ -62,7 +70,7 @@ fn peripheral_block(
 {
     let children = peripheral.children.as_slice();
     let inner = props_inside(key, peripheral, children, outer);
-    let inside = parts(alloc, children, &inner)?;
+    let inside = parts_of(alloc, children, &inner)?;
     let form = block_form(alloc, inside.children.as_slice())?;
     block(alloc, key, form, inside.units)
 }

@@ -1,4 +1,4 @@
-ghost use Rattle.std.specs.Prelude.{◌≡◌, ◌≢◌, ◌<◌, ◌^◌, ◌∷◌, [], map, IfOk};
+ghost use Rattle.std.specs.Prelude.{◌≡◌, ◌≢◌, ◌<◌, ◌^◌, ◌∷◌, [], true, map, IfOk};
 ghost use Rattle.std.specs.List.{AllByRecursion, list_all};
 ghost use Rattle.block_form.specs.Children.{IsSound};
 ghost use Rattle.block_form.specs.Numbers.{IsValid};
@@ -42,15 +42,15 @@ pub(crate) struct Parts {
 }
 
 /// What these registers and clusters come to, which stand in a block in which properties `outer` hold.
-#[cycle(parts)]
-pub(crate) fn parts(alloc: Global, items: &[Item], outer: &Props) -> Result<Parts, NoMemory>
+#[cycle(walk)]
+pub(crate) fn parts_of(alloc: Global, items: &[Item], outer: &Props) -> Result<Parts, NoMemory>
     requires { AllStand outer.now items.now }
     ensures { IfOk result (AreParts outer.now (siblings (map item_under items.now))) }
 {
     let mut children = Seq::new(alloc);
     let mut units = Vec::new(alloc);
     for item in items {
-        let made = part(alloc, item, outer)?;
+        let made = part_of(alloc, item, outer)?;
         children.push(made.child)?;
         units.push(made.unit)?;
     }
@@ -58,8 +58,8 @@ pub(crate) fn parts(alloc: Global, items: &[Item], outer: &Props) -> Result<Part
 }
 
 /// What one of them comes to.
-#[cycle(parts)]
-fn part(alloc: Global, item: &Item, outer: &Props) -> Result<Part, NoMemory>
+#[cycle(walk)]
+fn part_of(alloc: Global, item: &Item, outer: &Props) -> Result<Part, NoMemory>
     requires { StandsAlone outer.now (item_under item.now) }
     ensures { IfOk result (IsPart outer.now (item_under item.now)) }
 {
@@ -67,7 +67,7 @@ fn part(alloc: Global, item: &Item, outer: &Props) -> Result<Part, NoMemory>
         Element::Cluster(cluster) => {
             let children = cluster.children.as_slice();
             let inner = props_inside(&item.key, cluster, children, outer);
-            let inside = parts(alloc, children, &inner)?;
+            let inside = parts_of(alloc, children, &inner)?;
             cluster_part(alloc, &item.key, cluster, outer, inside)
         }
         Element::Register(register) => register_part(alloc, &item.key, register, outer),

@@ -15,19 +15,19 @@ use Rattle.crate_form.specs.Modules.{modules_of}
 use Rattle.crate_form.specs.Parts.{AreParts, IsPart, units_of, valid_unit}
 use Rattle.crate_form.proofs.Peripherals.{map_push}
 use Rattle.crate_form.proofs.Units.{children-first, children-none, joined, joined_ended, joined_more, joined_none, modules-first, modules-none, valid_more}
-use Rattle.crate_form.proofs.part.+parts.Goals as goal
+use Rattle.crate_form.proofs.part.+walk.Goals as goal
 
 -- ---- the elements
 
-pub parts-loop-item-init : goal.parts-loop-item-init
-parts-loop-item-init t c = record {
+pub parts_of-loop-item-init : goal.parts_of-loop-item-init
+parts_of-loop-item-init t c = record {
   children = ap (λ made. made ++ children_of c.args.outer.now (siblings (map item_under c.args.items.now))) c.new-children.ensures;
   units = ap (λ made. joined (units_of made) (modules_of c.args.outer.now (siblings (map item_under c.args.items.now)))) c.new-units.ensures.items ∙ joined_none (modules_of c.args.outer.now (siblings (map item_under c.args.items.now)));
   valid = ap (λ made. list_all valid_unit (units_of made)) c.new-units.ensures.items;
 }
 
-pub parts-loop-item-preserved : goal.parts-loop-item-preserved
-parts-loop-item-preserved t c =
+pub parts_of-loop-item-preserved : goal.parts_of-loop-item-preserved
+parts_of-loop-item-preserved t c =
     let outer = c.args.outer.now in
     let item = c.item-item.result in
     let others = map item_under (drop (c.loop-item.item-index + 1) c.args.items.now) in
@@ -53,8 +53,8 @@ parts-loop-item-preserved t c =
           ∙ valid_more valid_unit (units_of c.loop-item.units.items) (module_tree unit) c.loop-item.invariant.valid made.valid);
     }
 
-pub parts-returns : goal.parts-returns
-parts-returns t c =
+pub parts_of-returns : goal.parts_of-returns
+parts_of-returns t c =
     let none = drop_past c.args.items.now c.loop-item.item-index c.loop-item-test.false in
     record {
       children =
@@ -70,22 +70,22 @@ parts-returns t c =
 
 -- ---- one of them
 
-pub part-props_inside-requires-clause-stands : goal.part-props_inside-requires-clause-stands
-part-props_inside-requires-clause-stands t c = subst (StandsAlone c.args.outer.now) (cluster-child c.args.item.now c.in-Cluster.cluster c.in-Cluster.is) c.requires
+pub part_of-props_inside-inner-requires-clause-stands : goal.part_of-props_inside-inner-requires-clause-stands
+part_of-props_inside-inner-requires-clause-stands t c = subst (StandsAlone c.args.outer.now) (cluster-child c.args.item.now c.in-Cluster.cluster c.in-Cluster.is) c.requires
 
-pub part-cluster_part-requires-clause-stands : goal.part-cluster_part-requires-clause-stands
-part-cluster_part-requires-clause-stands t c = subst (StandsAlone c.args.outer.now) (cluster-child c.args.item.now c.in-Cluster.cluster c.in-Cluster.is) c.requires
+pub part_of-cluster_part-requires-clause-stands : goal.part_of-cluster_part-requires-clause-stands
+part_of-cluster_part-requires-clause-stands t c = subst (StandsAlone c.args.outer.now) (cluster-child c.args.item.now c.in-Cluster.cluster c.in-Cluster.is) c.requires
 
-pub part-cluster_part-requires-clause-inside : goal.part-cluster_part-requires-clause-inside
-part-cluster_part-requires-clause-inside t c =
+pub part_of-cluster_part-requires-clause-inside : goal.part_of-cluster_part-requires-clause-inside
+part_of-cluster_part-requires-clause-inside t c =
     subst (λ (p : Props). AreParts p (siblings (map item_under (out-Cluster c.in-Cluster.cluster).children.items)) c.in_ok-inside-in-Cluster.inside) c.props_inside-inner.ensures.props
     (subst (λ (items : List Item). AreParts c.props_inside-inner.result (siblings (map item_under items)) c.in_ok-inside-in-Cluster.inside) c.as_slice-children.ensures.value c.in_ok-inside-in-Cluster.ensures)
 
-pub part-register_part-requires : goal.part-register_part-requires
-part-register_part-requires t c = subst (StandsAlone c.args.outer.now) (register-child c.args.item.now c.in-Register.register c.in-Register.is) c.requires
+pub part_of-register_part-requires : goal.part_of-register_part-requires
+part_of-register_part-requires t c = subst (StandsAlone c.args.outer.now) (register-child c.args.item.now c.in-Register.register c.in-Register.is) c.requires
 
-pub part-returns-in_ok-inside-in-Cluster : goal.part-returns-in_ok-inside-in-Cluster
-part-returns-in_ok-inside-in-Cluster t c = subst (λ x. IfOk c.cluster_part.result (IsPart c.args.outer.now x)) (sym (cluster-child c.args.item.now c.in-Cluster.cluster c.in-Cluster.is)) c.cluster_part.ensures
+pub part_of-returns-in_ok-inside-in-Cluster : goal.part_of-returns-in_ok-inside-in-Cluster
+part_of-returns-in_ok-inside-in-Cluster t c = subst (λ x. IfOk c.cluster_part.result (IsPart c.args.outer.now x)) (sym (cluster-child c.args.item.now c.in-Cluster.cluster c.in-Cluster.is)) c.cluster_part.ensures
 
-pub part-returns-in-Register : goal.part-returns-in-Register
-part-returns-in-Register t c = subst (λ x. IfOk c.register_part.result (IsPart c.args.outer.now x)) (sym (register-child c.args.item.now c.in-Register.register c.in-Register.is)) c.register_part.ensures
+pub part_of-returns-in-Register : goal.part_of-returns-in-Register
+part_of-returns-in-Register t c = subst (λ x. IfOk c.register_part.result (IsPart c.args.outer.now x)) (sym (register-child c.args.item.now c.in-Register.register c.in-Register.is)) c.register_part.ensures
