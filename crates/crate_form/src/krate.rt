@@ -37,7 +37,12 @@ pub fn crate_form(alloc: Global, state: &Checked) -> Result<Crate, NoMemory>
 }
 
 /// The slot of a peripheral.
-fn slot(alloc: Global, key: &Sibling, peripheral: &Peripheral, outer: &Props) -> Result<Slot, NoMemory>
+fn slot(
+    alloc: Global,
+    key: &Sibling,
+    peripheral: &Peripheral,
+    outer: &Props,
+) -> Result<Slot, NoMemory>
     requires { IsPeripheral outer.now (peripheral_under (key.now, peripheral.now)) }
     ensures is { IfOk result (λ slot. slot ≡ slot_of (peripheral_under (key.now, peripheral.now)).0 (peripheral_under (key.now, peripheral.now)).1.keys) }
     ensures valid { IfOk result (λ slot. valid_slot slot ≡ true) }

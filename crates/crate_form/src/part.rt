@@ -101,7 +101,15 @@ fn cluster_part(
     let _ = outer;
     let form = block_form(alloc, inside.children.as_slice())?;
     let (size, align) = (form.size, form.align);
-    let child = child(alloc, key, ChildKind::Block, cluster.offset, &cluster.dim, size, align)?;
+    let child = child(
+        alloc,
+        key,
+        ChildKind::Block,
+        cluster.offset,
+        &cluster.dim,
+        size,
+        align,
+    )?;
     let block = block(alloc, key, form, inside.units)?;
     Ok(Part {
         child,
@@ -122,7 +130,15 @@ fn register_part(
     let made = register_in(alloc, key, register, outer)?;
     let bytes = made.word.bytes();
     let (offset, size) = (register.offset, u128::from(bytes));
-    let child = child(alloc, key, ChildKind::Register, offset, &register.dim, size, bytes)?;
+    let child = child(
+        alloc,
+        key,
+        ChildKind::Register,
+        offset,
+        &register.dim,
+        size,
+        bytes,
+    )?;
     Ok(Part {
         child,
         unit: Module::Register(register_form(alloc, &made)?),

@@ -2,6 +2,7 @@
 use Rattle.std.proofs.Common.{◌≡◌, List, ◌++◌, ◌∷◌, [], true, map, sym, ap, ap₂, ◌∙◌, subst, append_assoc, append-nil}
 use Rattle.std.specs.List.{list_all}
 use Rattle.std.proofs.lemmas.Bool.{and_from}
+use Rattle.checked_tree.proofs.Trees.{checked_trees}
 use Rattle.checked_tree.specs.Devices.{ArePeripherals}
 use Rattle.frag_tree.specs.declared.krate.Slot.{Slot}
 use Rattle.frag_tree.specs.declared.krate.Version.TheVariants.{One}
@@ -32,7 +33,7 @@ loop-key-init c =
       slots = ap₂ (λ (made : List Slot) entries. made ++ slots_of (siblings (map peripheral_under entries))) c.new-slots.ensures given;
       blocks = ap₂ (λ made entries. map block_tree made ++ blocks_of device.props (siblings (map peripheral_under entries))) c.new-blocks.ensures.items given;
       fit = subst (λ (entries : List (Sibling × Peripheral)). FitIn 0 device.props (siblings (map peripheral_under entries))) (sym given) (checked-fits device c.device-device.ensures.fact);
-      checked = subst (λ (entries : List (Sibling × Peripheral)). ArePeripherals device.props (siblings (map peripheral_under entries))) (sym given) ?;
+      checked = subst (λ (entries : List (Sibling × Peripheral)). ArePeripherals device.props (siblings (map peripheral_under entries))) (sym given) (checked_trees device c.device-device.ensures.fact).each;
       valid_slots = ap (list_all valid_slot) c.new-slots.ensures;
       valid_blocks = ap (λ made. list_all (valid_block One) (map block_tree made)) c.new-blocks.ensures.items;
     }
@@ -85,7 +86,7 @@ peripheral_block-requires c =
     peripheral-first outer (peripheral_under (c.in-Some.key.now, c.in-Some.peripheral.now)) (map peripheral_under c.next.new.self) fit checked
 
 pub returns-clause-form : goal.returns-clause-form
-unfolding crate_tree crate_of
+unfolding crate_tree crate_of device_tree
 returns-clause-form c =
     let device = c.device-device.result.now in
     let none = c.in-None.ensures.steps.0 in

@@ -38,7 +38,7 @@ returns c =
     let unit = c.in_ok-register_form.field-0 in
     let plain = ap has_arrays made ∙ plain_fields (props_inside (stated (register_places r)) outer) (step_of register key) (stated (register_places r)) (register_tree r).below in
     record {
-      child = child-made outer key r c.in_ok-child.child _ c.bytes.result c.in_ok-child.ensures ? (bytes-register outer key r c.in_ok-made.made c.bytes.result made c.bytes.ensures);
+      child = child-made outer key r c.in_ok-child.child _ c.bytes-bytes.result c.in_ok-child.ensures c.from-size.ensures (bytes-register outer key r c.in_ok-made.made c.bytes-bytes.result made c.bytes-bytes.ensures);
       unit = module_tree-register unit ∙ ap one_register (c.in_ok-register_form.ensures.form ∙ ap form_of made);
       valid = ap valid_unit (module_tree-register unit) ∙ c.in_ok-register_form.ensures.valid One (λ is. absurd (false≢true (sym plain ∙ is)));
     }
