@@ -1,9 +1,11 @@
 -- The crate that is emitted for a checked description stands for it.
-use Rattle.std.proofs.Common.{◌≡◌, true, false, ◌||◌, List, ◌∷◌, map, Some, bytes_eq, refl, sym, ap, subst}
-use Rattle.std.specs.List.{AllByRecursion}
+use Rattle.std.proofs.Common.{◌≡◌, true, false, cond, not, ◌||◌, List, [], ◌∷◌, map, Some, bytes_eq, refl, sym, ap, subst, ◌∙◌}
+use Rattle.std.specs.List.{AllByRecursion, list_any}
+use Rattle.std.proofs.lemmas.Bool.{not-true, or_parts}
 use Rattle.std.proofs.lemmas.Slice.Eq.{bytes_eq-Decides}
 use Rattle.frag_tree.specs.Trees.{BlockTree, CrateTree}
 use Rattle.frag_sem.specs.Modules.{are_distinct, top_block}
+use Rattle.frag_sem.proofs.Lists.{both_true, turned}
 use Rattle.reg_table.specs.Walk.{props_inside}
 use Rattle.svd_model.specs.declared.props.Props.{Props}
 use Rattle.svd_model.specs.Keys.{Key}
@@ -19,7 +21,7 @@ use Rattle.crate_form.specs.Modules.{block_of}
 use Rattle.crate_form.proofs.Forming.{emitted_by_tree}
 use Rattle.crate_means.specs.CrateIs.{CrateOf, EachPeripheral}
 use Rattle.crate_means.specs.Laws.{EmittedFaults, EmittedMeaning, EmittedPlaces, EmittedPresets, EmittedStands, EmittedSurface}
-use Rattle.crate_means.proofs.Blocks.{block_is, found-each}
+use Rattle.crate_means.proofs.Blocks.{block_is}
 use Rattle.crate_means.proofs.Places.{places_are_alike, same_meaning, same_presets}
 use Rattle.crate_means.proofs.Surfaces.{same_faults, same_surface}
 
@@ -34,10 +36,22 @@ blocks-names outer (node step keys below others) = ap (λ names. accessor_name s
 abbrev AreThere : List BlockTree → List BlockTree → Type 0
 AreThere blocks units = AllByRecursion (λ (unit : BlockTree). top_block unit.head.name blocks ≡ Some unit) units
 
+-- where names are distinct
+there : (units : List BlockTree) → are_distinct bytes_eq (map (λ (unit : BlockTree). unit.head.name) units) ≡ true → AreThere units units
+unfolding are_distinct
+there [] distinct = tt
+there (unit ∷ units) distinct =
+    let both = both_true (not (list_any (bytes_eq unit.head.name) (map (λ (unit : BlockTree). unit.head.name) units))) (are_distinct bytes_eq (map (λ (unit : BlockTree). unit.head.name) units)) distinct in
+    (ap (λ b. cond b (Some unit) (top_block unit.head.name units)) ((bytes_eq-Decides unit.head.name unit.head.name).1 refl), behind units (there units both.1) (not-true (list_any (bytes_eq unit.head.name) (map (λ (unit : BlockTree). unit.head.name) units)) both.0))
+  where
+    behind : (others : List BlockTree) → AreThere units others → list_any (bytes_eq unit.head.name) (map (λ (unit : BlockTree). unit.head.name) others) ≡ false → AreThere (unit ∷ units) others
+    behind [] all none = tt
+    behind (other ∷ others) all none =
+        let parts = or_parts (bytes_eq unit.head.name other.head.name) (list_any (bytes_eq unit.head.name) (map (λ (unit : BlockTree). unit.head.name) others)) none in
+        (ap (λ b. cond b (Some unit) (top_block other.head.name units)) (turned unit.head.name other.head.name parts.0) ∙ all.0, behind others all.1 parts.1)
+
 blocks-there : (outer : Props) (f : Forest Step Key) → AreSiblings f → AreThere (blocks_of outer f) (blocks_of outer f)
-blocks-there outer f siblings =
-    found-each (λ (unit : BlockTree). unit.head.name) (λ one other. bytes_eq one.head.name other.head.name) (λ unit. (bytes_eq-Decides unit.head.name unit.head.name).1 refl) (λ one other differ. differ) (blocks_of outer f)
-    (subst (λ names. are_distinct bytes_eq names ≡ true) (sym (blocks-names outer f)) siblings.names)
+blocks-there outer f siblings = there (blocks_of outer f) (subst (λ names. are_distinct bytes_eq names ≡ true) (sym (blocks-names outer f)) siblings.names)
 
 -- ---- slots
 
