@@ -1,9 +1,11 @@
-ghost use Rattle.std.specs.Prelude.{◌≡◌, ◌<◌, ◌^◌, ◌∷◌, [], true, IfOk};
+ghost use Rattle.std.specs.Prelude.{◌≡◌, ◌<◌, ◌^◌, ◌∷◌, [], true, map, option_map, IfOk, IfSome};
+ghost use Rattle.std.specs.List.{list_all, slice_get};
 ghost use Rattle.crate_form.specs.Crates.{emitted, slot_of};
 ghost use Rattle.crate_form.specs.Elements.{AllStand, IsPeripheral, block_at};
 ghost use Rattle.crate_form.specs.Parts.{IsBlock};
-ghost use Rattle.frag_tree.specs.Trees.{crate_tree};
-ghost use Rattle.frag_tree.specs.Validity.{valid_crate, valid_slot};
+ghost use Rattle.frag_tree.specs.declared.krate.Version.TheVariants.{One};
+ghost use Rattle.frag_tree.specs.Trees.{block_tree, crate_tree};
+ghost use Rattle.frag_tree.specs.Validity.{valid_block, valid_crate, valid_slot};
 ghost use Rattle.svd_model.specs.Properties.{holding};
 ghost use Rattle.svd_model.specs.Trees.{peripheral_under};
 
@@ -21,19 +23,57 @@ pub fn crate_form(alloc: Global, state: &Checked) -> Result<Crate, NoMemory>
     ensures form { IfOk result (λ krate. crate_tree krate ≡ emitted state.now) }
     ensures valid { IfOk result (λ krate. valid_crate (crate_tree krate) ≡ true) }
 {
-    let device = state.device();
-    let mut slots = Seq::new(alloc);
-    let mut blocks = Vec::new(alloc);
-    for (key, peripheral) in &device.peripherals {
-        slots.push(slot(alloc, key, peripheral, &device.props)?)?;
-        blocks.push(peripheral_block(alloc, key, peripheral, &device.props)?)?;
-    }
     Ok(Crate {
         version: Version::One,
-        slots,
-        blocks,
+        slots: crate_slots(alloc, state)?,
+        blocks: blocks(alloc, state)?,
         places: Seq::new(alloc),
     })
+}
+
+/// Its slots.
+pub fn crate_slots(alloc: Global, state: &Checked) -> Result<Seq<Slot>, NoMemory>
+    ensures form { IfOk result (λ slots. slots ≡ (emitted state.now).slots) }
+    ensures valid { IfOk result (λ slots. list_all valid_slot slots ≡ true) }
+{
+    let device = state.device();
+    let mut slots = Seq::new(alloc);
+    for (key, peripheral) in &device.peripherals {
+        slots.push(slot(alloc, key, peripheral, &device.props)?)?;
+    }
+    Ok(slots)
+}
+
+/// Its block module of this number, counted from 0; none where it has no more.
+pub fn crate_block(
+    alloc: Global,
+    state: &Checked,
+    number: usize,
+) -> Result<Option<Block>, NoMemory>
+    ensures form { IfOk result (λ block. option_map block_tree block ≡ slice_get (emitted state.now).blocks number) }
+    ensures valid { IfOk result (λ block. IfSome block (λ block. valid_block One (block_tree block) ≡ true)) }
+{
+    let device = state.device();
+    match device.peripherals.get_index(number) {
+        Some((key, peripheral)) => {
+            let block = peripheral_block(alloc, key, peripheral, &device.props)?;
+            Ok(Some(block))
+        }
+        None => Ok(None),
+    }
+}
+
+/// Its block modules.
+fn blocks(alloc: Global, state: &Checked) -> Result<Vec<Block>, NoMemory>
+    ensures form { IfOk result (λ blocks. map block_tree blocks.items ≡ (emitted state.now).blocks) }
+    ensures valid { IfOk result (λ blocks. list_all (valid_block One) (map block_tree blocks.items) ≡ true) }
+{
+    let device = state.device();
+    let mut blocks = Vec::new(alloc);
+    for (key, peripheral) in &device.peripherals {
+        blocks.push(peripheral_block(alloc, key, peripheral, &device.props)?)?;
+    }
+    Ok(blocks)
 }
 
 /// The slot of a peripheral.

@@ -8,5 +8,5 @@ mod name;
 mod part;
 mod register;
 
-pub use krate::crate_form;
+pub use krate::{crate_block, crate_form, crate_slots};
 pub use laws::{form_law, version_law};
