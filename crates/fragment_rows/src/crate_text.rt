@@ -129,7 +129,10 @@ fn no_part_of_version_two_can_be_left_out(rt: HostRuntime) -> Result<(), Fail> {
             continue;
         }
         let front = whole.split_at(place).0;
-        assert!(rt; is_syntax(rt.alloc(), front) == (place != SLOTS), "up to {place}");
+        assert!(rt;
+            is_syntax(rt.alloc(), front) == (place != SLOTS),
+            "up to {place}"
+        );
         let other = spoiled(rt.alloc(), place)?;
         assert!(rt; is_syntax(rt.alloc(), other.as_slice()), "at {place}");
     }

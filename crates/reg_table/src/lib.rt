@@ -14,4 +14,3 @@ pub use listing::list_text;
 pub use register::register_row;
 pub use row::{Call, Calls, FieldDim, FieldRow, FieldRows, Row, RowPath, Table};
 pub use table_rows::table;
-

@@ -19,9 +19,24 @@ fn is_first_name(word: &[u8]) -> bool
     ensures { result ≡ list_any (bytes_eq word.now) first_names }
 {
     let rows = rows![
-        "at", "at_index", "bit", "bit_is_clear", "bit_is_set", "bits", "clear_bit",
-        "clear_bit_by_one", "generic", "modify", "new", "read", "reset", "set_bit",
-        "set_bit_by_zero", "toggle_bit", "write", "write_with_zero",
+        "at",
+        "at_index",
+        "bit",
+        "bit_is_clear",
+        "bit_is_set",
+        "bits",
+        "clear_bit",
+        "clear_bit_by_one",
+        "generic",
+        "modify",
+        "new",
+        "read",
+        "reset",
+        "set_bit",
+        "set_bit_by_zero",
+        "toggle_bit",
+        "write",
+        "write_with_zero",
     ];
     is_among::<18>(&rows, word)
 }

@@ -18,4 +18,3 @@ pub use element::{Element, Source};
 pub use fault::TextFault;
 pub use said::Said;
 pub use text::{one_element, read_element};
-

@@ -22,4 +22,3 @@ pub use fault::XmlFault;
 pub use opening::after_opening;
 pub use part::{Part, one_list_of_parts, split_part};
 pub use tag::Tag;
-
