@@ -5,7 +5,7 @@ ghost use Rattle.frag_tree.specs.Trees.{crate_tree};
 use frag_tree::{Crate, Script};
 use std::marker::Model;
 
-/// A crate that fits: each typing rule holds. Contracts see it as its pure tree.
+/// A crate that fits: each typing rule holds. Contracts see it as the crate.
 #[derive(Drop)]
 pub struct TypedCrate {
     krate: Crate,
@@ -13,11 +13,17 @@ pub struct TypedCrate {
 
 impl Model for TypedCrate {
     ghost use Rattle.frag_sem.specs.CrateTyping.{CrateFits};
-    ghost use Rattle.frag_tree.specs.Trees.{CrateTree, crate_tree};
+    ghost use Rattle.frag_tree.specs.Trees.{crate_tree};
+    ghost use Rattle.frag_tree.specs.declared.krate.Crate.{Crate};
 
-    ghost Value = { CrateTree };
+    ghost use Rattle.frag_tree.specs.contracts.block.Block as unit;
+    ghost use Rattle.std.specs.Coded.{codes};
 
-    ghost view = { λ typed. crate_tree typed.krate };
+    ghost Value = { Crate };
+
+    ghost coded = { Prim.hlevel (codes, unit.the_row.coded) };
+
+    ghost view = { λ typed. typed.krate };
 
     ghost invariant = { λ typed. CrateFits (crate_tree typed.krate) };
 }
@@ -26,15 +32,15 @@ impl TypedCrate {
     /// The crate as one that fits, which is the condition.
     pub(crate) fn new(krate: Crate) -> TypedCrate
         requires { CrateFits (crate_tree krate) }
-        ensures { result ≡ crate_tree krate }
+        ensures { result ≡ krate }
     {
         TypedCrate { krate }
     }
 
     /// The tree that was typed.
     pub fn krate(&self) -> &Crate
-        ensures same { crate_tree result.now ≡ self.now }
-        ensures fits { CrateFits self.now }
+        ensures same { result.now ≡ self.now }
+        ensures fits { CrateFits (crate_tree self.now) }
     {
         &self.krate
     }

@@ -13,7 +13,7 @@ use std::alloc::Global;
 /// with `Typing`, whose kind is that of the first rule that fails anywhere in the crate, and whose byte is
 /// that of the first item that breaks it; want of memory is the one other refusal.
 pub fn type_crate(alloc: Global, krate: Crate) -> Result<TypedCrate, Back<Crate, CrateFault>>
-    ensures same { IfOk result (λ typed. typed ≡ crate_tree krate) }
+    ensures same { IfOk result (λ typed. typed ≡ krate) }
     ensures fits { IfOk result (λ typed. CrateFits (crate_tree krate)) }
     ensures kept { IfErr result (λ back. back.state ≡ krate) }
     ensures fault { IfErr result (λ back. IsCrateRefusal (crate_tree krate) back.fault) }
