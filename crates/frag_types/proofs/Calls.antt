@@ -6,17 +6,15 @@ use Rattle.std.proofs.lemmas.Bool.{false≢true}
 use Rattle.std.proofs.lemmas.List.Folds.{list_any-append}
 use Rattle.frag_sem.specs.PreludeCalls.{bit_tests, bit_writes}
 use Rattle.frag_sem.specs.ProxyTypes.{ProxyType, bit_reader, bit_writer, field_reader, field_writer, number_calls, numbers_on, reader_type, same_type, truth_calls, truths_on, value_names, values_type, writer_type}
-use Rattle.frag_sem.specs.Surfaces.{ReadCall, ValueType, WriteCall, number, truth}
-use Rattle.frag_sem.specs.TextSurface.{plain_call, read_calls, test_call, write_calls}
+use Rattle.frag_sem.specs.Surfaces.{ReadCall, WriteCall, number, truth}
+use Rattle.frag_sem.specs.TextSurface.{plain_call, test_call}
 use Rattle.frag_tree.specs.declared.register.BitKind.{BitKind}
-use Rattle.frag_tree.specs.declared.register.ReadForm.{ReadForm}
 use Rattle.frag_tree.specs.declared.register.ReadForm.TheVariants as read
 use Rattle.frag_tree.specs.declared.register.Reader.{Reader}
 use Rattle.frag_tree.specs.declared.register.RegisterModule.{RegisterModule}
 use Rattle.frag_tree.specs.declared.register.Spot.{Spot}
 use Rattle.frag_tree.specs.declared.register.Values.{Values}
 use Rattle.frag_tree.specs.declared.register.Values.TheVariants as values
-use Rattle.frag_tree.specs.declared.register.WriteForm.{WriteForm}
 use Rattle.frag_tree.specs.declared.register.WriteForm.TheVariants as write
 use Rattle.frag_tree.specs.declared.register.Writer.{Writer}
 use Rattle.pac_base.specs.declared.width.Width.{Width}
@@ -142,10 +140,10 @@ unfolding given
 given_bit unit reader spot mask method is = rw is (sym
     (first-gives (bytes_eq method (codes "bit")) _ _
     ∙ (ap (λ o. if bytes_eq method (codes "bit") then Some truth else o)
-        (tests (λ call. call.name) (bit_tests ++ truths_on (bit_reader reader.marker) unit.values) method
-        ∙ ap (λ b. if b then Some truth else None)
-            (list_any-append (λ call. bytes_eq method call.name) bit_tests (truths_on (bit_reader reader.marker) unit.values)
-            ∙ ap (λ b. list_any (λ call. bytes_eq method call.name) bit_tests || b) (truths-found (bit_reader reader.marker) (bit-reader-alone reader.marker) method unit.values)))
+    (tests (λ call. call.name) (bit_tests ++ truths_on (bit_reader reader.marker) unit.values) method
+    ∙ ap (λ b. if b then Some truth else None)
+    (list_any-append (λ call. bytes_eq method call.name) bit_tests (truths_on (bit_reader reader.marker) unit.values)
+    ∙ ap (λ b. list_any (λ call. bytes_eq method call.name) bit_tests || b) (truths-found (bit_reader reader.marker) (bit-reader-alone reader.marker) method unit.values)))
     ∙ whole-or (bytes_eq method (codes "bit")) (list_any (λ call. bytes_eq method call.name) bit_tests || on_type (bit_reader reader.marker) method unit.values))))
 
 pub given_field : (unit : RegisterModule) (reader : Reader) (width : Width) (spot : Spot) (mask : ℕ) (method : List ℕ) → reader.form ≡ read.Field width spot mask
@@ -154,8 +152,8 @@ unfolding given
 given_field unit reader width spot mask method is = rw is (sym
     (first-gives (bytes_eq method (codes "bits")) _ _
     ∙ ap (λ o. if bytes_eq method (codes "bits") then Some (number width) else o)
-        (tests (λ call. call.name) (numbers_on (field_reader reader.marker width) unit.values) method
-        ∙ ap (λ b. if b then Some truth else None) (numbers-found (field_reader reader.marker width) (field-reader-alone reader.marker width) method unit.values))))
+    (tests (λ call. call.name) (numbers_on (field_reader reader.marker width) unit.values) method
+    ∙ ap (λ b. if b then Some truth else None) (numbers-found (field_reader reader.marker width) (field-reader-alone reader.marker width) method unit.values))))
 
 pub taken_bit : (unit : RegisterModule) (writer : Writer) (kind : BitKind) (spot : Spot) (method : List ℕ) → writer.form ≡ write.Bit kind spot
     → taken_as (bytes_eq method (codes "bit")) truth (writes_bit kind writer unit.values method) ≡ taken unit writer method
@@ -163,10 +161,10 @@ unfolding taken
 taken_bit unit writer kind spot method is = rw is (sym
     (first-takes (bytes_eq method (codes "bit")) _ _
     ∙ ap (λ o. if bytes_eq method (codes "bit") then Some (Some truth) else o)
-        (plains (λ call. call.name) (bit_writes kind ++ truths_on (bit_writer kind writer.marker) unit.values) method
-        ∙ ap (λ b. if b then Some None else None)
-            (list_any-append (λ call. bytes_eq method call.name) (bit_writes kind) (truths_on (bit_writer kind writer.marker) unit.values)
-            ∙ ap (λ b. list_any (λ call. bytes_eq method call.name) (bit_writes kind) || b) (truths-found (bit_writer kind writer.marker) (bit-writer-alone kind writer.marker) method unit.values)))))
+    (plains (λ call. call.name) (bit_writes kind ++ truths_on (bit_writer kind writer.marker) unit.values) method
+    ∙ ap (λ b. if b then Some None else None)
+    (list_any-append (λ call. bytes_eq method call.name) (bit_writes kind) (truths_on (bit_writer kind writer.marker) unit.values)
+    ∙ ap (λ b. list_any (λ call. bytes_eq method call.name) (bit_writes kind) || b) (truths-found (bit_writer kind writer.marker) (bit-writer-alone kind writer.marker) method unit.values)))))
 
 pub taken_field : (unit : RegisterModule) (writer : Writer) (width : Width) (wide : ℕ) (spot : Spot) (method : List ℕ) → writer.form ≡ write.Field width wide spot
     → taken_as (bytes_eq method (codes "bits")) (number width) (on_type (writer_type writer) method unit.values) ≡ taken unit writer method
@@ -174,5 +172,5 @@ unfolding taken
 taken_field unit writer width wide spot method is = rw is (sym
     (first-takes (bytes_eq method (codes "bits")) _ _
     ∙ ap (λ o. if bytes_eq method (codes "bits") then Some (Some (number width)) else o)
-        (plains (λ call. call.name) (numbers_on (field_writer writer.marker width wide) unit.values) method
-        ∙ ap (λ b. if b then Some None else None) (numbers-found (field_writer writer.marker width wide) (field-writer-alone writer.marker width wide) method unit.values))))
+    (plains (λ call. call.name) (numbers_on (field_writer writer.marker width wide) unit.values) method
+    ∙ ap (λ b. if b then Some None else None) (numbers-found (field_writer writer.marker width wide) (field-writer-alone writer.marker width wide) method unit.values))))

@@ -1,5 +1,5 @@
 -- A script types alike with any two lists of names that bind each name to the same.
-use Rattle.std.proofs.Common.{◌≡◌, ℕ, Bool, true, false, not, ◌||◌, ◌==◌, is_some, List, [], ◌∷◌, map, find, Option, Some, None, Ok, Err, option_map, refl, sym, ap, ◌∙◌, if◌then◌else◌}
+use Rattle.std.proofs.Common.{◌≡◌, ℕ, Bool, true, false, not, ◌||◌, ◌==◌, is_some, List, [], ◌∷◌, find, Option, Some, None, Ok, Err, option_map, refl, sym, ap, ◌∙◌, if◌then◌else◌}
 use Rattle.std.specs.Prelude.{ok_or}
 use Rattle.std.specs.Borrow.{Bor}
 use Rattle.std.specs.List.{list_any}
@@ -128,7 +128,7 @@ same-statement : (scope : Scope) (one other : Names) → HaveSame one other → 
 unfolding statement_types
 same-statement scope one other same line (statement.Let name place) k l behind_it =
     ap (λ b. line_fault line (holds_or rebound (not (b || (scope.is_slot name || (bytes_eq name reader_name || bytes_eq name writer_name)))) >>= λ _. (scope.call can_read place >>= λ register. Ok ((name, register) ∷ one))) k)
-      (any-name one name ∙ (ap is_some (same name) ∙ sym (any-name other name)))
+    (any-name one name ∙ (ap is_some (same name) ∙ sym (any-name other name)))
     ∙ behind line (holds_or rebound (is_new scope other name)) _ _ k l (λ _. behind line (scope.call can_read place) _ _ k l (λ register. behind_it _ _ (same-more one other same name register)))
 same-statement scope one other same line (statement.Write place chain) k l behind_it =
     behind line (scope.call can_write place) _ _ k l (λ register. behind-chain line _ _ one other k l (same-chain one other same register chain) (behind_it one other same))

@@ -4,7 +4,7 @@ use Rattle.std.specs.Map.{lookup}
 use Rattle.std.specs.Str.{bytes_eq}
 use Rattle.std.specs.Borrow.{Bor}
 use Rattle.frag_sem.specs.PlaceTyping.{call_leads, module_fault, module_scope}
-use Rattle.frag_sem.specs.ScriptTyping.{LineFault, Names, Scope, ScriptKind, Typed, ◌>>=◌, anything, can_modify, can_read, can_write, chain_types, holds_or, line_fault, lines_fault, name_of, names_within, rebound, statement_types, value_types}
+use Rattle.frag_sem.specs.ScriptTyping.{Names, Scope, ScriptKind, Typed, ◌>>=◌, anything, can_modify, can_read, can_write, chain_types, holds_or, lines_fault, name_of, names_within, rebound, statement_types, value_types}
 use Rattle.frag_sem.specs.Surfaces.{RegisterCalls}
 use Rattle.frag_sem.specs.TextSurface.{register_calls}
 use Rattle.frag_tree.specs.declared.register.RegisterModule.{RegisterModule}

@@ -1,5 +1,5 @@
 -- The steps of typing, one word after the other.
-use Rattle.std.proofs.Common.{◌≡◌, ℕ, Bool, true, false, ◌||◌, List, [], ◌∷◌, ◌++◌, map, find, is_some, length, arith, Option, Some, None, Ok, Err, option_map, option_and_then, refl, sym, ap, ◌∙◌, if◌then◌else◌}
+use Rattle.std.proofs.Common.{◌≡◌, ℕ, Bool, true, false, ◌||◌, List, [], ◌∷◌, map, find, is_some, length, arith, Option, Some, None, Ok, Err, option_map, refl, sym, ap, ◌∙◌, if◌then◌else◌}
 use Rattle.std.specs.Prelude.{ok_or}
 use Rattle.std.specs.Borrow.{Bor}
 use Rattle.std.specs.List.{list_any}
@@ -8,7 +8,7 @@ use Rattle.frag_sem.specs.Modules.{beside, modules_of, same_element}
 use Rattle.frag_sem.specs.CallPlaces.{slot_named}
 use Rattle.frag_sem.specs.PlaceTyping.{inner_named, slot_module, steps_lead}
 use Rattle.frag_sem.specs.ProxyTypes.{readers_of, writers_of}
-use Rattle.frag_sem.specs.ScriptTyping.{Names, ScriptKind, Typed, ◌>>=◌, argument_types, chain_types, index_types, just, link_types, name_of, no_such_call, no_such_name, read_call, source_type, value_types, write_call}
+use Rattle.frag_sem.specs.ScriptTyping.{Names, ScriptKind, Typed, ◌>>=◌, argument_types, chain_types, index_types, just, link_types, name_of, no_such_call, read_call, source_type, value_types, write_call}
 use Rattle.frag_sem.specs.Surfaces.{ReadCall, ReadField, RegisterCalls, ValueType, WriteCall, WriteField, number}
 use Rattle.frag_sem.specs.TextSurface.{read_calls, read_field, register_calls, write_calls, write_field}
 use Rattle.frag_tree.specs.declared.block.Element.{Element}

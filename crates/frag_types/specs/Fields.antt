@@ -1,5 +1,5 @@
 -- What the methods of a register's fields give and take.
-use Rattle.std.specs.Prelude.{ℕ, Bool, ◌||◌, List, codes, find, Option, Some, None, Result, Ok, Err, ok_or, option_map, if◌then◌else◌}
+use Rattle.std.specs.Prelude.{ℕ, Bool, ◌||◌, List, codes, find, Option, Some, None, ok_or, option_map, if◌then◌else◌}
 use Rattle.std.specs.List.{list_any}
 use Rattle.std.specs.Str.{bytes_eq}
 use Rattle.frag_sem.specs.PreludeCalls.{bit_tests, bit_writes}

@@ -1,5 +1,5 @@
 -- What the refusals of typing say: the kinds of the rules as the faults tell them.
-use Rattle.std.specs.Prelude.{ℕ, ◌≡◌, Option, Some, ⊤}
+use Rattle.std.specs.Prelude.{◌≡◌, Option, Some, ⊤}
 use Rattle.frag_script.specs.declared.fault.ScriptFault.{ScriptFault}
 use Rattle.frag_script.specs.declared.fault.ScriptFault.TheVariants as script_fault
 use Rattle.frag_script.specs.declared.fault.ScriptTyping.{ScriptTyping}

@@ -5,11 +5,10 @@ use Rattle.std.specs.List.{list_any}
 use Rattle.std.specs.Str.{bytes_eq}
 use Rattle.frag_script.specs.declared.fault.ScriptTyping.{ScriptTyping}
 use Rattle.frag_sem.specs.PlaceTyping.{Inner, call_leads, inner_named, module_scope}
-use Rattle.frag_sem.specs.ScriptTyping.{Names, Scope, ScriptKind, Typed, ◌>>=◌, Wanted, anything, just, can_modify, can_read, can_write, chain_types, holds_or, index_types, name_of, names_within, no_such_call, reader_name, rebound, writer_name}
+use Rattle.frag_sem.specs.ScriptTyping.{Names, Scope, Typed, ◌>>=◌, Wanted, anything, just, can_modify, can_read, can_write, chain_types, holds_or, index_types, name_of, names_within, no_such_call, reader_name, rebound, writer_name}
 use Rattle.frag_sem.specs.Surfaces.{RegisterCalls, number, truth}
 use Rattle.frag_sem.specs.Surfaces.{ValueType as SurfaceType}
 use Rattle.frag_sem.specs.TextSurface.{register_calls}
-use Rattle.frag_tree.specs.declared.block.Block.{Block}
 use Rattle.frag_tree.specs.declared.register.RegisterModule.{RegisterModule}
 use Rattle.frag_tree.specs.declared.statement.Call.{Call}
 use Rattle.frag_tree.specs.declared.statement.Link.{Link}

@@ -15,8 +15,16 @@ fn link_types(names: &Names<'_, '_>, unit: &RegisterModule, link: &Link) -> Resu
     ensures { told_held result ≡ link_types (names_of names.now) (register_calls unit.now) link.now }
 {
     match link {
-        Link::Bits { value } => value_types(names, Wanted::Just(ValueType::Number(unit.word)), value),
-        Link::Field { field, method, value } => {
+        Link::Bits { value } => value_types(
+            names,
+            Wanted::Just(ValueType::Number(unit.word)),
+            value,
+        ),
+        Link::Field {
+            field,
+            method,
+            value,
+        } => {
             match write_type(unit, field, method.bytes()) {
                 Ok(takes) => argument_types(names, takes, value),
                 Err(kind) => Err(kind),

@@ -74,7 +74,10 @@ fn reader_named<'a>(unit: &'a RegisterModule, name: &[u8]) -> Option<&'a Reader>
     ensures { option_map (λ reader. reader.now) result ≡ find (λ reader. bytes_eq name.now reader.name) (readers_of unit.now) }
 {
     match &unit.readers {
-        Some(readers) => readers.as_slice().iter().find(|reader| reader.name.bytes() == name),
+        Some(readers) => readers
+            .as_slice()
+            .iter()
+            .find(|reader| reader.name.bytes() == name),
         None => None,
     }
 }
@@ -84,7 +87,10 @@ fn writer_named<'a>(unit: &'a RegisterModule, name: &[u8]) -> Option<&'a Writer>
     ensures { option_map (λ writer. writer.now) result ≡ find (λ writer. bytes_eq name.now writer.name) (writers_of unit.now) }
 {
     match &unit.writers {
-        Some(writers) => writers.as_slice().iter().find(|writer| writer.name.bytes() == name),
+        Some(writers) => writers
+            .as_slice()
+            .iter()
+            .find(|writer| writer.name.bytes() == name),
         None => None,
     }
 }

@@ -1,15 +1,13 @@
-// Typing of crate texts and of scripts against them: what passes is a type that holds the fact, and what is
-// refused comes back with the kind of the first rule that fails.
+// Typing of scripts against a crate that fits: a script that passes is a type of its own, and one that is
+// refused comes back with its first line that doesn't type, and the kind of the leftmost word at which a rule fails.
 #![tactic(auto)]
 
 mod at;
 mod chain;
 mod fault;
 mod field;
-mod krate;
 mod named;
 mod names;
-mod naming;
 mod place;
 mod proxy;
 mod script;
@@ -20,6 +18,5 @@ mod value_type;
 
 pub use fault::{CrateFault, CrateTyping};
 pub use frag_script::{ScriptFault, ScriptTyping};
-pub use krate::type_crate;
 pub use script::type_script;
 pub use typed::{TypedCrate, TypedScript};

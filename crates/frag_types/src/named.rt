@@ -1,6 +1,6 @@
-ghost use Rattle.std.specs.Prelude.{◌≡◌, IfOk, not, List, ℕ, Some, None, [], ◌∷◌, ◌++◌, is_some, if◌then◌else◌};
+ghost use Rattle.std.specs.Prelude.{◌≡◌, IfOk, List, ℕ, Some, [], if◌then◌else◌};
 ghost use Rattle.std.specs.Map.{lookup};
-ghost use Rattle.std.specs.Option.{option_or, option_copied};
+ghost use Rattle.std.specs.Option.{option_copied};
 ghost use Rattle.std.specs.Str.{bytes_eq};
 
 use indexmap::IndexMap;
@@ -46,17 +46,5 @@ impl<'a, T: Drop> Named<'a, T> {
     {
         self.held.insert(name, item)?;
         Ok(())
-    }
-
-    /// Gives the name this item where it has none, and says whether it had none.
-    pub(crate) fn keep(&mut self, name: &'a [u8], item: T) -> Result<bool, NoMemory>
-        ensures fresh { IfOk result (λ fresh. fresh ≡ not (is_some (lookup (bytes_eq name.now) self.old))) }
-        ensures kept { IfOk result (λ _. (other : List ℕ) → lookup (bytes_eq other) self.new ≡ option_or (lookup (bytes_eq other) self.old) (lookup (bytes_eq other) ((name.now, item) ∷ []))) }
-    {
-        if self.get(name).is_some() {
-            return Ok(false);
-        }
-        self.set(name, item)?;
-        Ok(true)
     }
 }

@@ -13,7 +13,10 @@ ghost use Rattle.frag_types.specs.Telling.{allowed, at_tree, inner_seen, step_le
 use crate::at::{At, Behind};
 use crate::value_type::held;
 use frag_script::ScriptTyping;
-use frag_tree::{Access, Block, Body, Call, Crate, Element, FieldType, Module, Place, RegisterModule, Slot, StructField};
+use frag_tree::{
+    Access, Block, Body, Call, Crate, Element, FieldType, Module, Place, RegisterModule, Slot,
+    StructField,
+};
 
 /// How a statement uses a register.
 #[derive(Clone, Copy)]

@@ -5,7 +5,10 @@ ghost use Rattle.frag_sem.specs.ProxyTypes.{number_calls, reader_type, same_kind
 ghost use Rattle.frag_types.specs.Proxies.{on_type, proxy_seen};
 
 use crate::value_type::same_width;
-use frag_tree::{BitKind, Identifier, NumberCall, ReadForm, Reader, TruthCall, Values, WriteForm, Writer, kind_word};
+use frag_tree::{
+    BitKind, Identifier, NumberCall, ReadForm, Reader, TruthCall, Values, WriteForm, Writer,
+    kind_word,
+};
 use pac_base::Width;
 
 /// The type of a reader or a writer of a field, on which the calls of values stand.
@@ -45,7 +48,12 @@ pub(crate) fn values_type<'a>(block: &'a Values) -> Proxy<'a>
         Values::BitReading { marker, .. } => Proxy::BitReader(marker),
         Values::FieldReading { marker, width, .. } => Proxy::FieldReader(marker, *width),
         Values::BitWriting { kind, marker, .. } => Proxy::BitWriter(*kind, marker),
-        Values::FieldWriting { marker, width, bits, .. } => Proxy::FieldWriter(marker, *width, *bits),
+        Values::FieldWriting {
+            marker,
+            width,
+            bits,
+            ..
+        } => Proxy::FieldWriter(marker, *width, *bits),
     }
 }
 
@@ -124,7 +132,5 @@ fn has_call(block: &Values, name: &[u8]) -> bool
 pub(crate) fn on_type(proxy: Proxy<'_>, values: &[Values], name: &[u8]) -> bool
     ensures { result ≡ on_type (proxy_seen proxy.entry) name.now values.now }
 {
-    values
-        .iter()
-        .any(|block| proxy.same(values_type(block)) && has_call(block, name))
+    values.iter().any(|block| proxy.same(values_type(block)) && has_call(block, name))
 }

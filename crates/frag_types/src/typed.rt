@@ -15,7 +15,6 @@ impl Model for TypedCrate {
     ghost use Rattle.frag_sem.specs.CrateTyping.{CrateFits};
     ghost use Rattle.frag_tree.specs.Trees.{crate_tree};
     ghost use Rattle.frag_tree.specs.declared.krate.Crate.{Crate};
-
     ghost use Rattle.frag_tree.specs.contracts.block.Block as unit;
     ghost use Rattle.std.specs.Coded.{codes};
 

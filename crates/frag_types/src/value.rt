@@ -17,7 +17,11 @@ fn source_type(names: &Names<'_, '_>, source: &Source) -> Result<ValueType, Scri
             Some(unit) => Ok(ValueType::Number(unit.word)),
             None => Err(ScriptTyping::NoSuchName),
         },
-        Source::Field { reader, field, method } => match names.get(reader.bytes()) {
+        Source::Field {
+            reader,
+            field,
+            method,
+        } => match names.get(reader.bytes()) {
             Some(unit) => read_type(unit, field, method.bytes()),
             None => Err(ScriptTyping::NoSuchName),
         },

@@ -15,11 +15,11 @@ pub returns-in-Ok : goal.returns-in-Ok
 returns-in-Ok c =
     c.argument_types.ensures
     ∙ (link-field (names_of c.args.names.now) c.args.unit.now c.in-Field.field c.in-Field.method c.in-Field.value (option_map type_seen c.in-Ok.takes)
-        (sym (c.write_type.ensures ∙ ap (write_type c.args.unit.now c.in-Field.field) c.bytes.ensures.same) ∙ ap (told (option_map type_seen)) c.in-Ok.is)
+    (sym (c.write_type.ensures ∙ ap (write_type c.args.unit.now c.in-Field.field) c.bytes.ensures.same) ∙ ap (told (option_map type_seen)) c.in-Ok.is)
     ∙ sym (ap (link_types (names_of c.args.names.now) (register_calls c.args.unit.now)) c.in-Field.is))
 
 pub returns-in-Err : goal.returns-in-Err
 returns-in-Err c =
     link-fails (names_of c.args.names.now) c.args.unit.now c.in-Field.field c.in-Field.method c.in-Field.value (script_kind c.in-Err.kind)
-      (sym (c.write_type.ensures ∙ ap (write_type c.args.unit.now c.in-Field.field) c.bytes.ensures.same) ∙ ap (told (option_map type_seen)) c.in-Err.is)
+    (sym (c.write_type.ensures ∙ ap (write_type c.args.unit.now c.in-Field.field) c.bytes.ensures.same) ∙ ap (told (option_map type_seen)) c.in-Err.is)
     ∙ sym (ap (link_types (names_of c.args.names.now) (register_calls c.args.unit.now)) c.in-Field.is)

@@ -1,4 +1,4 @@
-use Rattle.std.proofs.Common.{sym, ap, ◌∙◌, is_some}
+use Rattle.std.proofs.Common.{ap, ◌∙◌, is_some}
 use Rattle.frag_sem.specs.CallPlaces.{slot_named}
 use Rattle.frag_tree.specs.declared.krate.Slot.{Slot}
 use Rattle.std.specs.Borrow.{Bor}

@@ -12,13 +12,13 @@ loop-first-init c = script-begins (crate_tree c.args.krate.now) c.args.script.no
 pub loop-first-preserved : goal.loop-first-preserved
 loop-first-preserved c =
     line-passed (module_scope (crate_tree c.args.krate.now)) c.loop-first.rest.now c.in-Some.others.now c.in-Some.first.now (names_in c.loop-first.bound) (names_in c.bind.new.bound) _ c.in-Some.ensures.cases.0
-      (sym c.statement_types.ensures ∙ ap (told (bound_behind (names_in c.loop-first.bound) c.in-Some.first.now.statement)) c.in-Ok.is) c.in_ok-bind-in-Ok.ensures
+    (sym c.statement_types.ensures ∙ ap (told (bound_behind (names_in c.loop-first.bound) c.in-Some.first.now.statement)) c.in-Ok.is) c.in_ok-bind-in-Ok.ensures
     ∙ c.loop-first.invariant
 
 pub returns-in-Err : goal.returns-in-Err
 returns-in-Err c =
     line-stops (module_scope (crate_tree c.args.krate.now)) c.loop-first.rest.now c.in-Some.others.now c.in-Some.first.now (names_in c.loop-first.bound) (script_kind c.in-Err.kind) c.in-Some.ensures.cases.0
-      (sym c.statement_types.ensures ∙ ap (told (bound_behind (names_in c.loop-first.bound) c.in-Some.first.now.statement)) c.in-Err.is)
+    (sym c.statement_types.ensures ∙ ap (told (bound_behind (names_in c.loop-first.bound) c.in-Some.first.now.statement)) c.in-Err.is)
     ∙ c.loop-first.invariant
 
 pub returns : goal.returns

@@ -11,12 +11,12 @@ use Rattle.frag_types.proofs.value.source_type.Goals as goal
 pub returns-in-Some : goal.returns-in-Some
 returns-in-Some c =
     source-bits (names_of c.args.names.now) c.in-Bits.reader c.in-Some.unit.now
-      (sym (c.get.ensures ∙ ap (name_of (names_of c.args.names.now)) c.bytes.ensures.same) ∙ ap (option_map (λ (unit : Bor RegisterModule). register_calls unit.now)) c.in-Some.is)
+    (sym (c.get.ensures ∙ ap (name_of (names_of c.args.names.now)) c.bytes.ensures.same) ∙ ap (option_map (λ (unit : Bor RegisterModule). register_calls unit.now)) c.in-Some.is)
     ∙ sym (ap (source_type (names_of c.args.names.now)) c.in-Bits.is)
 
 pub returns-in-Some-get : goal.returns-in-Some-get
 returns-in-Some-get c =
     c.read_type.ensures ∙ (ap (read_type c.in-Some-get.unit.now c.in-Field.field) c.bytes-in-Some-get.ensures.same
     ∙ (source-field (names_of c.args.names.now) c.in-Field.reader c.in-Field.field c.in-Field.method c.in-Some-get.unit.now
-        (sym (c.get-in-Field.ensures ∙ ap (name_of (names_of c.args.names.now)) c.bytes-in-Field.ensures.same) ∙ ap (option_map (λ (unit : Bor RegisterModule). register_calls unit.now)) c.in-Some-get.is)
+    (sym (c.get-in-Field.ensures ∙ ap (name_of (names_of c.args.names.now)) c.bytes-in-Field.ensures.same) ∙ ap (option_map (λ (unit : Bor RegisterModule). register_calls unit.now)) c.in-Some-get.is)
     ∙ sym (ap (source_type (names_of c.args.names.now)) c.in-Field.is)))

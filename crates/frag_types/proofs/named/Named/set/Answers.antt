@@ -1,4 +1,4 @@
-use Rattle.std.proofs.Common.{sym, ◌∙◌, ap, map, Some, if◌then◌else◌}
+use Rattle.std.proofs.Common.{◌∙◌, ap, map, Some, if◌then◌else◌}
 use Rattle.std.specs.Map.{lookup}
 use Rattle.std.specs.Str.{bytes_eq}
 use Rattle.frag_types.proofs.Entries.{entry_of, found-inserted}
