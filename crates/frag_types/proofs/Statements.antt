@@ -1,5 +1,5 @@
 -- The statements of a script against the modules of a crate.
-use Rattle.std.proofs.Common.{◌≡◌, ℕ, Bool, true, false, not, find, List, [], ◌∷◌, Option, None, Some, option_map, Result, Ok, Err, IfOk, if◌then◌else◌, length, arith, refl, sym, ap, ◌∙◌}
+use Rattle.std.proofs.Common.{◌≡◌, ℕ, Bool, true, false, not, find, List, [], ◌∷◌, Option, None, Some, option_map, Result, Ok, Err, IfOk, if◌then◌else◌, length, refl, sym, ap, ◌∙◌}
 use Rattle.std.specs.Map.{lookup}
 use Rattle.std.specs.Str.{bytes_eq}
 use Rattle.std.specs.Borrow.{Bor}
@@ -17,6 +17,7 @@ use Rattle.frag_tree.specs.declared.statement.Statement.TheVariants as statement
 use Rattle.frag_tree.specs.declared.statement.Value.{Value}
 use Rattle.frag_tree.specs.Trees.{CrateTree}
 use Rattle.frag_types.specs.Telling.{HaveSame, alone, bound_behind, chain_leads, is_taken, let_leads, names_in, with_names}
+use Rattle.frag_types.proofs.Steps.{none-left}
 use Rattle.frag_types.proofs.SameNames.{bound-names, same-lines}
 
 -- a chain behind a call, and then the names as they were
@@ -70,10 +71,6 @@ unfolding let_leads
 let-taken krate names name place taken = rw taken refl
 
 -- ---- lines
-
-none-left : {A : Type 0} (xs : List A) → length xs ≡ 0 → xs ≡ []
-none-left [] h = refl
-none-left (x ∷ xs) h = absurd (omega arith)
 
 pub line-passed : (scope : Scope) (all others : List ScriptLine) (first : ScriptLine) (names now then_bound : Names)
     → all ≡ first ∷ others → statement_types scope names first.statement ≡ Ok then_bound → HaveSame then_bound now → lines_fault scope others now ≡ lines_fault scope all names

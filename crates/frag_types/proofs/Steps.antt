@@ -41,7 +41,7 @@ is-found {A} name_of (x ∷ xs) name = by (bytes_eq name (name_of x)) (is-found 
     by true more = refl
     by false more = more
 
-none-left : {A : Type 0} (xs : List A) → length xs ≡ 0 → xs ≡ []
+pub none-left : {A : Type 0} (xs : List A) → length xs ≡ 0 → xs ≡ []
 none-left [] h = refl
 none-left (x ∷ xs) h = absurd (omega arith)
 
