@@ -1,0 +1,7 @@
+pub mod Refusals
+pub mod Held
+pub mod Elements
+pub mod Proxies
+pub mod Fields
+pub mod Lines
+pub mod Telling
