@@ -1,5 +1,5 @@
 -- What the deeds of a run mean, each by itself (this project's own rule): events, where the k-th read has the k-th answer. Words that were read are numbered from 0.
-use Rattle.std.specs.Prelude.{ℕ, Bool, ◌==◌, List, [], ◌∷◌, ◌++◌, drop, fold, Option, Some, None, slice_get, unwrap_or}
+use Rattle.std.specs.Prelude.{ℕ, Bool, ◌==◌, List, [], ◌∷◌, ◌++◌, drop, fold, min, Option, Some, None, slice_get, unwrap_or}
 use Rattle.pac_base.specs.declared.width.Width.{Width}
 use Rattle.pac_base.specs.Widths.{bits_of}
 use Rattle.frag_tree.specs.declared.event.Event.{Event}
@@ -49,7 +49,7 @@ operand_number words operand = number_said (operand_said words operand)
 -- what is put into a word of N bits
 abbrev pub put_into : ℕ → List ℕ → ℕ → Put → ℕ
 put_into N words word (put.Whole value) = as_bits N (operand_number words value)
-put_into N words word (put.Part offset bits value) = written N word offset bits (operand_number words value)
+put_into N words word (put.Part offset bits value) = written N word offset (min bits 64) (operand_number words value)
 
 -- one after the other
 abbrev pub all_put : ℕ → List ℕ → ℕ → List Put → ℕ

@@ -1,4 +1,4 @@
-use crate::role::Due;
+use crate::role::Role;
 use pac_base::Width;
 
 /// What a run does next, in plain numbers. Words that were read are numbered from 0, in the order of the reads.
@@ -20,13 +20,15 @@ pub(crate) enum Deed {
     },
 }
 
-/// Where an access goes, and which it is of the script's.
+/// Where an access goes, and what it is.
 #[derive(Clone, Copy)]
 pub(crate) struct Target {
     /// The address of its first byte.
     pub address: u64,
     pub width: Width,
-    pub due: Due,
+    pub role: Role,
+    /// The line of its statement.
+    pub line: u32,
 }
 
 /// The word from which a write starts.

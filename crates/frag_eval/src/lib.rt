@@ -2,7 +2,17 @@
 // then run step by step, one access of the bus a step, without memory.
 #![tactic(auto)]
 
+mod course;
 mod deed;
+mod preparing;
+mod ready;
 mod role;
+mod running;
+mod stage;
+mod word;
 
+pub use preparing::prepare;
+pub use ready::Ready;
 pub use role::Role;
+pub use running::{begin, run, step};
+pub use stage::{BusFault, Running, Stage};

@@ -10,12 +10,3 @@ pub enum Role {
     /// The write of a `modify`.
     ModifyWrite,
 }
-
-/// An access that a script asks for.
-#[derive(Clone, Copy)]
-pub(crate) struct Due {
-    /// What it is.
-    pub role: Role,
-    /// The line of its statement.
-    pub line: u32,
-}
