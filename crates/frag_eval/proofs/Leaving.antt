@@ -59,7 +59,9 @@ behind P (first ∷ made) next later all = behind P made next later all.1
 drop_one : {A : Type 0} (n : ℕ) (xs : List A) (x : A) (rest : List A) → drop n xs ≡ x ∷ rest → drop (n + 1) xs ≡ rest
 drop_one zero xs x rest is = ap (drop 1) is
 drop_one (suc n) [] x rest is = absurd (let e : [] ≡ x ∷ rest = is in cc)
-drop_one (suc n) (first ∷ xs) x rest is = drop_one n xs x rest is
+drop_one (suc n) (first ∷ xs) x rest is =
+    let next : suc n + 1 ≡ suc (n + 1) = omega arith in
+    ap (λ (m : ℕ). drop m (first ∷ xs)) next ∙ drop_one n xs x rest is
 
 -- ---- deed by deed
 

@@ -1,7 +1,7 @@
 -- A run within the crate: the deeds that are left, and what they have to do with the script.
 use Rattle.std.specs.Prelude.{ℕ, ◌≡◌, ◌≤◌, ◌<◌, ◌+◌, ◌^◌, List, [], ◌∷◌, ◌++◌, drop, length, Option, Some, None, Result, Ok, Err, slice_get, ⊤}
 use Rattle.std.specs.List.{AllByRecursion}
-use Rattle.std.specs.Vec.{vec_capacity, vec_len}
+use Rattle.std.specs.Vec.{vec_capacity}
 use Rattle.pac_base.specs.Widths.{bits_of}
 use Rattle.pac_bus.specs.declared.access.BusFailed.{BusFailed}
 use Rattle.pac_bus.specs.Answers.{Failed}
@@ -48,7 +48,7 @@ left_of course = drop course.next course.deeds.items
 pub record IsCourse (course : Course) : Type 0 where
   pub left : AreLeft (crate_tree course.of.value) course.script course.made.list (left_of course)
   pub words : course.words.items ≡ reads_in course.made.list
-  pub few : course.next ≤ vec_len course.deeds
+  pub few : course.next ≤ length course.deeds.items
   pub room : length (left_of course) ≤ course.made.spare
   pub words_room : length course.words.items + length (left_of course) ≤ vec_capacity course.words
 
@@ -119,12 +119,13 @@ seen_of course = record { krate = course.of.value; script = course.script; event
 pub record SameRun (old now : Course) : Type 0 where
   pub of_is : now.of.value ≡ old.of.value
   pub script : now.script ≡ old.script
-  pub deeds : now.deeds ≡ old.deeds
+  pub deeds : now.deeds.items ≡ old.deeds.items
 
 -- one more event was made, of the deed that was next
 pub record Keeps (old now : Course) (made : Event) : Type 0 where
   pub same : SameRun old now
-  pub words : now.words ≡ old.words
+  pub words : now.words.items ≡ old.words.items
+  pub words_room : vec_capacity old.words ≤ vec_capacity now.words
   pub next : now.next ≡ old.next + 1
   pub one_more : now.made.list ≡ old.made.list ++ made ∷ []
   pub room : old.made.spare ≤ now.made.spare + 1

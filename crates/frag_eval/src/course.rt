@@ -1,5 +1,5 @@
 ghost use Rattle.std.specs.Prelude.{◌≡◌, ◌≤◌, ◌<◌, ◌+◌, length, ◌++◌, ◌∷◌, []};
-ghost use Rattle.std.specs.Vec.{vec_capacity, vec_len};
+ghost use Rattle.std.specs.Vec.{vec_capacity};
 ghost use Rattle.frag_eval.specs.Courses.{Accesses, GoesTo, IsAtAccess, IsCourse, IsTarget, Keeps, Makes, MayMake, NextSaid, SaysAll, next_of};
 
 use crate::deed::{Deed, Target};
@@ -52,7 +52,7 @@ impl Course {
     /// Puts an event behind those that were made, for which there is room.
     fn keep(&mut self, event: Event)
         requires room { 1 ≤ self.old.made.spare }
-        requires next { self.old.next < vec_len self.old.deeds }
+        requires next { self.old.next < length self.old.deeds.items }
         ensures { Keeps self.old self.new event }
     {
         match self.made.push(event) {
