@@ -106,6 +106,7 @@ said_more old mid now said so_far next keeps = by (next_of mid) refl next
       are_said = all_said so_far.said said so_far.are_said;
       made = keeps.one_more ∙ (ap (λ made. made ++ event.Say said ∷ []) so_far.made ∙ append_assoc old.made.list so_far.said (event.Say said ∷ []));
     }
+
     by : (o : Option Deed) → next_of mid ≡ o → NextSaid (Some said) o mid.words.items → SaidUpTo old now
     by None is next = absurd next
     by (Some (deed.Read at)) is next = absurd next
@@ -137,6 +138,7 @@ may_make course one at next = by one next (subst IsTarget next at.access)
   where
     is : IsCourse course
     is = at.course_is
+
     by : (one : Deed) → next_of course ≡ Some one → IsTarget (Some one) → MayMake one course.words.items
     by (deed.Read to) next target = may_read (crate_tree course.of.value) course.script course.made.list to (drop (course.next + 1) course.deeds.items) (left_here course (deed.Read to) is next)
     by (deed.Write to from puts) next target =
@@ -178,10 +180,12 @@ is_under_way course at = by (next_of course) refl at.access
   where
     is : IsCourse course
     is = at.course_is
+
     here : (one : Deed) → next_of course ≡ Some one → IsTarget (Some one) → IsUnderWay (crate_tree course.of.value) course.script course.made.list
     here (deed.Read to) next target = under_way_at (crate_tree course.of.value) course.script course.made.list _ _ tt (meant_now (crate_tree course.of.value) course.script course.made.list (deed.Read to ∷ drop (course.next + 1) course.deeds.items) (left_here course (deed.Read to) is next))
     here (deed.Write to from puts) next target = under_way_at (crate_tree course.of.value) course.script course.made.list _ _ tt (meant_now (crate_tree course.of.value) course.script course.made.list (deed.Write to from puts ∷ drop (course.next + 1) course.deeds.items) (left_here course (deed.Write to from puts) is next))
     here (deed.Say value) next target = absurd target
+
     by : (o : Option Deed) → next_of course ≡ o → IsTarget o → IsUnderWay (crate_tree course.of.value) course.script course.made.list
     by None next target = absurd target
     by (Some one) next target = here one next target
@@ -204,6 +208,7 @@ room_for_access course at = by (next_of course) refl at.access
   where
     is : IsCourse course
     is = at.course_is
+
     by : (o : Option Deed) → next_of course ≡ o → IsTarget o → (1 ≤ course.made.spare) × (course.next < length course.deeds.items) × (length course.words.items + 1 ≤ vec_capacity course.words)
     by None next target = absurd target
     by (Some one) next target =
@@ -241,10 +246,12 @@ first_due course to at goes = by (next_of course) refl goes
   where
     is : IsCourse course
     is = at.course_is
+
     here : (one : Deed) → next_of course ≡ Some one → GoesTo (Some one) to → slice_get (dues (crate_tree course.of.value) course.script) (length (accesses_in course.made.list)) ≡ Some (target_due to)
     here (deed.Read also) next goes = get_first (length (accesses_in course.made.list)) (dues (crate_tree course.of.value) course.script) (target_due also) (deeds_dues (drop (course.next + 1) course.deeds.items)) ((left_here course (deed.Read also) is next).due) ∙ ap (λ (x : Target). Some (target_due x)) (sym goes)
     here (deed.Write also from puts) next goes = get_first (length (accesses_in course.made.list)) (dues (crate_tree course.of.value) course.script) (target_due also) (deeds_dues (drop (course.next + 1) course.deeds.items)) ((left_here course (deed.Write also from puts) is next).due) ∙ ap (λ (x : Target). Some (target_due x)) (sym goes)
     here (deed.Say value) next goes = absurd goes
+
     by : (o : Option Deed) → next_of course ≡ o → GoesTo o to → slice_get (dues (crate_tree course.of.value) course.script) (length (accesses_in course.made.list)) ≡ Some (target_due to)
     by None next goes = absurd goes
     by (Some one) next goes = here one next goes
@@ -268,8 +275,10 @@ pub all_done : (course : Course) → IsCourse course → length course.deeds.ite
 all_done course is past = all_made (crate_tree course.of.value) course.script course.made.list (subst (λ (deeds : List Deed). AreLeft (crate_tree course.of.value) course.script course.made.list deeds) (drop_all course.next course.deeds.items past) is.left)
 
 pub arrives : (old now : Course) (stage : StageSeen) → SaysAll old now → StageIs stage now.of.value now.script now.made.list → Arrives old stage
-arrives old now stage says is =
-    (says.said, says.are_said,
-    subst (λ (krate : Crate). StageIs stage krate old.script (old.made.list ++ says.said)) says.same.of_is
-    (subst (λ (script : Script). StageIs stage now.of.value script (old.made.list ++ says.said)) says.same.script
-    (subst (λ (events : List Event). StageIs stage now.of.value now.script events) says.made is)))
+arrives old now stage says is = (
+  says.said,
+  says.are_said,
+  subst (λ (krate : Crate). StageIs stage krate old.script (old.made.list ++ says.said)) says.same.of_is
+      (subst (λ (script : Script). StageIs stage now.of.value script (old.made.list ++ says.said)) says.same.script
+      (subst (λ (events : List Event). StageIs stage now.of.value now.script events) says.made is)),
+)

@@ -138,13 +138,13 @@ stopped old mid now ready running count events so_far failed same count_is =
     let all = text_meaning (crate_tree ready.krate) ready.script (reads_in running.events) in
     let split = split_at all (length (accesses_in running.events)) is.more in
     let here : Stopped old now ready.krate ready.script (length running.events) running.events =
-      record {
-        count_is = refl;
-        next = split.next;
-        later = split.later;
-        first = split.whole ∙ ap (λ (front : List Event). front ++ split.next ∷ split.later) (sym is.prefix);
-        is_access = split.is_access;
-        broke = record { between = mid; acted = so_far.acted; failed = failed };
-      } in
+    record {
+      count_is = refl;
+      next = split.next;
+      later = split.later;
+      first = split.whole ∙ ap (λ (front : List Event). front ++ split.next ∷ split.later) (sym is.prefix);
+      is_access = split.is_access;
+      broke = record { between = mid; acted = so_far.acted; failed = failed };
+    } in
     subst (λ (n : ℕ). Stopped old now ready.krate ready.script n events) (sym count_is)
     (subst (λ (made : List Event). Stopped old now ready.krate ready.script (length made) made) (sym same) here)

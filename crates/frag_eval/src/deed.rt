@@ -37,11 +37,7 @@ pub(crate) enum Start {
     /// This one.
     Word(u64),
     /// That of the masks, based on a word that was read.
-    Based {
-        read: usize,
-        one: u64,
-        zero: u64,
-    },
+    Based { read: usize, one: u64, zero: u64 },
 }
 
 /// What is put into a word.

@@ -14,7 +14,6 @@ pub struct Ready {
 impl Model for Ready {
     ghost use Rattle.frag_eval.specs.Courses.{IsReady, ready_of};
     ghost use Rattle.frag_eval.specs.Runs.{Readied};
-
     ghost use Rattle.frag_tree.specs.contracts.block.Module as module_row;
     ghost use Rattle.std.specs.Coded.{codes};
 

@@ -25,7 +25,6 @@ pub struct Running {
 impl Model for Running {
     ghost use Rattle.frag_eval.specs.Courses.{IsAtAccess, seen_of};
     ghost use Rattle.frag_eval.specs.Runs.{UnderWay};
-
     ghost use Rattle.frag_tree.specs.contracts.block.Module as module_row;
     ghost use Rattle.std.specs.Coded.{codes};
 

@@ -142,7 +142,10 @@ fn negated(negations: u32, said: Said) -> Said
 pub(crate) fn operand_said(words: &[u64], operand: &Operand) -> Said
     ensures { result ≡ operand_said words.now operand.now }
 {
-    negated(operand.negations, cast_said(operand.cast, term_said(words, &operand.term)))
+    negated(
+        operand.negations,
+        cast_said(operand.cast, term_said(words, &operand.term)),
+    )
 }
 
 fn put_into(width: Width, words: &[u64], word: u64, put: &Put) -> u64
