@@ -1,15 +1,12 @@
 -- What is left of a run, deed by deed.
-use Rattle.std.proofs.Common.{ℕ, ◌≡◌, ◌+◌, ◌%◌, ◌^◌, ◌<◌, ◌≤◌, zero, suc, List, [], ◌∷◌, ◌++◌, drop, length, Option, refl, sym, ap, subst, ◌∙◌, arith, append_assoc, add-one}
+use Rattle.std.proofs.Common.{ℕ, ◌≡◌, ◌+◌, ◌%◌, ◌^◌, ◌<◌, ◌≤◌, zero, suc, List, [], ◌∷◌, ◌++◌, drop, length, refl, sym, ap, subst, ◌∙◌, arith, append_assoc}
 use Rattle.std.proofs.Math.Nat.{mod-eq_of_lt}
 use Rattle.std.proofs.lemmas.List.{append-nil, length-append}
 use Rattle.std.specs.List.{AllByRecursion}
-use Rattle.pac_base.specs.declared.width.Width.{Width}
 use Rattle.pac_base.specs.Widths.{bits_of}
-use Rattle.pac_bus.specs.declared.access.BusAccess.{BusAccess}
 use Rattle.pac_bus.specs.Answers.{a_read, a_write}
 use Rattle.frag_tree.specs.declared.event.Event.{Event}
 use Rattle.frag_tree.specs.declared.event.Event.TheVariants as event
-use Rattle.frag_tree.specs.declared.event.Said.{Said}
 use Rattle.frag_tree.specs.declared.script.Script.{Script}
 use Rattle.frag_tree.specs.Trees.{CrateTree}
 use Rattle.frag_sem.specs.Laws.{EventInRange}
@@ -17,11 +14,10 @@ use Rattle.frag_sem.specs.TextMeaning.{text_meaning}
 use Rattle.frag_eval.specs.declared.deed.Deed.{Deed}
 use Rattle.frag_eval.specs.declared.deed.Deed.TheVariants as deed
 use Rattle.frag_eval.specs.declared.deed.Operand.{Operand}
-use Rattle.frag_eval.specs.declared.deed.Put.{Put}
 use Rattle.frag_eval.specs.declared.deed.Start.{Start}
 use Rattle.frag_eval.specs.declared.deed.Target.{Target}
 use Rattle.frag_eval.specs.Deeds.{deeds_mean, operand_said}
-use Rattle.frag_eval.specs.Prefixes.{AreSaid, Due, IsAccess, IsAll, IsUnderWay, accesses_in, dues, reads_in, up_to}
+use Rattle.frag_eval.specs.Prefixes.{IsAccess, IsAll, IsUnderWay, accesses_in, dues, reads_in, up_to}
 use Rattle.frag_eval.specs.Courses.{AreLeft, MayMake, deeds_dues, target_due, word_of}
 
 -- ---- events after events

@@ -1,5 +1,5 @@
 -- A run, step by step.
-use Rattle.std.proofs.Common.{ℕ, ◌≡◌, ◌+◌, ◌-◌, ◌<◌, ◌≤◌, zero, suc, List, [], ◌∷◌, ◌++◌, map, length, refl, sym, ap, subst, ◌∙◌, arith}
+use Rattle.std.proofs.Common.{ℕ, ◌≡◌, ◌-◌, ◌<◌, ◌≤◌, zero, suc, List, [], ◌∷◌, ◌++◌, map, length, refl, sym, ap, subst, ◌∙◌, arith}
 use Rattle.pac_bus.specs.declared.access.BusAccess.{BusAccess}
 use Rattle.pac_bus.specs.Acts.{Act}
 use Rattle.pac_bus.specs.Acts.Act.{does}
@@ -12,8 +12,8 @@ use Rattle.frag_tree.specs.declared.krate.Crate.{Crate}
 use Rattle.frag_tree.specs.declared.script.Script.{Script}
 use Rattle.frag_tree.specs.Trees.{crate_tree}
 use Rattle.frag_sem.specs.TextMeaning.{text_meaning}
-use Rattle.frag_eval.specs.Prefixes.{AreSaid, IsAccess, IsUnderWay, accesses_in, acts_of, reads_in, up_to}
-use Rattle.frag_eval.specs.Runs.{Begins, Broke, HasSpare, IsStepped, Ran, Readied, StageIs, StageSeen, Stopped, UnderWay, done, under_way}
+use Rattle.frag_eval.specs.Prefixes.{AreSaid, IsAccess, accesses_in, acts_of, reads_in, up_to}
+use Rattle.frag_eval.specs.Runs.{Begins, HasSpare, IsStepped, Ran, Readied, StageIs, StageSeen, Stopped, UnderWay, done, under_way}
 use Rattle.frag_eval.proofs.Leaving.{accesses-count, accesses_in-append}
 
 abbrev pub events_of : StageSeen → List Event

@@ -1,5 +1,5 @@
 -- Shifts by 64 bits and more.
-use Rattle.std.proofs.Common.{ℕ, ◌≡◌, ◌+◌, ◌-◌, ◌*◌, ◌/◌, ◌%◌, ◌^◌, ◌<◌, ◌≤◌, refl, sym, ap, ◌∙◌, arith, bit_and}
+use Rattle.std.proofs.Common.{ℕ, ◌≡◌, ◌+◌, ◌-◌, ◌*◌, ◌/◌, ◌%◌, ◌^◌, ◌<◌, ◌≤◌, sym, ap, ◌∙◌, arith}
 use Rattle.std.proofs.Math.Nat.{div-eq_of_lt, mul_assoc, mul-mod_left, pow-le-pow_right}
 use Rattle.std.proofs.lemmas.Nat.{and_le_l, pow-add}
 use Rattle.pac_base.specs.declared.width.Width.{Width}

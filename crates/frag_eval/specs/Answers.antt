@@ -1,20 +1,13 @@
 -- What each call of a run answers, case by case (this project's own rule).
 use Rattle.std.specs.Prelude.{Result, Ok, Err}
 use Rattle.pac_base.specs.declared.back.Back.{Back}
-use Rattle.pac_base.specs.declared.memory.NoMemory.{NoMemory}
 use Rattle.pac_bus.specs.declared.access.BusFailed.{BusFailed}
 use Rattle.pac_bus.specs.Telling.{BusTold}
-use Rattle.frag_tree.specs.declared.script.Script.{Script}
 use Rattle.frag_tree.specs.EventLists.{EventList}
-use Rattle.frag_tree.specs.declared.krate.Crate.{Crate}
 use Rattle.frag_eval.specs.declared.stage.BusFault.{BusFault}
 use Rattle.frag_eval.specs.declared.stage.Stage.{Stage}
-use Rattle.frag_eval.specs.Runs.{IsHeld, IsReadied, IsRefused, IsStepped, Ran, Readied, Stopped, UnderWay}
+use Rattle.frag_eval.specs.Runs.{IsHeld, IsStepped, Ran, Readied, Stopped, UnderWay}
 use Rattle.frag_eval.specs.Stages.{stage_seen}
-
-abbrev pub Prepares : Result Readied (Back Script NoMemory) → BusTold → BusTold → Crate → Script → Type 0
-Prepares (Ok ready) old now krate script = IsReadied old now krate script ready
-Prepares (Err back) old now krate script = IsRefused old now krate script back.state
 
 abbrev pub Steps : Result Stage (Back UnderWay BusFailed) → BusTold → BusTold → UnderWay → Type 0
 Steps (Ok stage) old now running = IsStepped old now running (stage_seen stage)

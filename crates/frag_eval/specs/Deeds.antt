@@ -1,5 +1,5 @@
 -- What the deeds of a run mean, each by itself (this project's own rule): events, where the k-th read has the k-th answer. Words that were read are numbered from 0.
-use Rattle.std.specs.Prelude.{ℕ, Bool, ◌==◌, List, [], ◌∷◌, ◌++◌, drop, fold, min, Option, Some, None, slice_get, unwrap_or}
+use Rattle.std.specs.Prelude.{ℕ, ◌==◌, List, [], ◌∷◌, ◌++◌, drop, fold, min, Option, Some, None, slice_get, unwrap_or}
 use Rattle.pac_base.specs.declared.width.Width.{Width}
 use Rattle.pac_base.specs.Widths.{bits_of}
 use Rattle.frag_tree.specs.declared.event.Event.{Event}

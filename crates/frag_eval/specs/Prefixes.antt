@@ -2,18 +2,17 @@
 use Rattle.std.specs.Prelude.{ℕ, ◌≡◌, ◌<◌, zero, suc, List, [], ◌∷◌, map, length, flat_map, Option, Some, None, option_and_then, ⊤}
 use Rattle.pac_bus.specs.declared.access.BusAccess.{BusAccess}
 use Rattle.pac_bus.specs.Acts.{Act}
-use Rattle.pac_bus.specs.Acts.Act.{does, sets}
-use Rattle.pac_bus.specs.Answers.{a_preset, a_read, a_write}
+use Rattle.pac_bus.specs.Acts.Act.{does}
+use Rattle.pac_bus.specs.Answers.{a_read, a_write}
 use Rattle.frag_tree.specs.declared.event.Event.{Event}
 use Rattle.frag_tree.specs.declared.event.Event.TheVariants as event
 use Rattle.frag_tree.specs.declared.script.Script.{Script}
 use Rattle.frag_tree.specs.declared.script.ScriptLine.{ScriptLine}
-use Rattle.frag_tree.specs.declared.statement.Place.{Place}
 use Rattle.frag_tree.specs.declared.statement.Statement.{Statement}
 use Rattle.frag_tree.specs.declared.statement.Statement.TheVariants as statement
 use Rattle.frag_tree.specs.Trees.{CrateTree}
 use Rattle.frag_sem.specs.CallPlaces.{RegisterAt, register_at}
-use Rattle.frag_sem.specs.Presets.{Preset, called}
+use Rattle.frag_sem.specs.Presets.{called}
 use Rattle.frag_sem.specs.TextMeaning.{text_meaning}
 use Rattle.frag_eval.specs.declared.role.Role.{Role}
 use Rattle.frag_eval.specs.declared.role.Role.TheVariants as role
@@ -57,10 +56,6 @@ AreSaid (event.Say said ∷ events) = AreSaid events
 -- what events do on a bus
 abbrev pub acts_of : List Event → List Act
 acts_of events = map does (accesses_in events)
-
--- what presets do on a bus
-abbrev pub sets_of : List Preset → List Act
-sets_of presets = map (λ preset. sets (a_preset preset.address preset.width preset.value)) presets
 
 -- ---- what a script asks for
 

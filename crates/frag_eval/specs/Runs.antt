@@ -1,5 +1,5 @@
 -- What the calls of a run do, case by case (this project's own rule).
-use Rattle.std.specs.Prelude.{ℕ, ◌≡◌, ◌≤◌, List, [], ◌∷◌, ◌++◌, length, take}
+use Rattle.std.specs.Prelude.{ℕ, ◌≡◌, ◌≤◌, List, [], ◌∷◌, ◌++◌, length}
 use Rattle.pac_bus.specs.Acts.{Act}
 use Rattle.pac_bus.specs.Answers.{Failed}
 use Rattle.pac_bus.specs.Telling.{BusTold, Did}
@@ -7,9 +7,8 @@ use Rattle.frag_tree.specs.declared.event.Event.{Event}
 use Rattle.frag_tree.specs.declared.script.Script.{Script}
 use Rattle.frag_tree.specs.declared.krate.Crate.{Crate}
 use Rattle.frag_tree.specs.Trees.{crate_tree}
-use Rattle.frag_sem.specs.Presets.{Preset}
-use Rattle.frag_sem.specs.TextMeaning.{text_meaning, text_presets}
-use Rattle.frag_eval.specs.Prefixes.{AreSaid, IsAccess, IsAll, IsUnderWay, accesses_in, acts_of, reads_in, sets_of}
+use Rattle.frag_sem.specs.TextMeaning.{text_meaning}
+use Rattle.frag_eval.specs.Prefixes.{AreSaid, IsAccess, IsAll, IsUnderWay, accesses_in, acts_of, reads_in}
 
 -- a script that is ready to run against a crate
 pub record Readied : Type 0 where
@@ -30,20 +29,6 @@ pub data StageSeen : Type 0 where
 -- there is room for each access that the script may make against the crate
 abbrev pub HasSpare : BusTold → Readied → Type 0
 HasSpare told ready = (answers : List ℕ) → length (accesses_in (text_meaning (crate_tree ready.krate) ready.script answers)) ≤ told.spare
-
--- ---- prepare
-
--- the script is ready, its presets were made, and there is room for each access
-pub record IsReadied (old now : BusTold) (krate : Crate) (script : Script) (ready : Readied) : Type 0 where
-  pub same : ready ≡ record { krate = krate; script = script }
-  pub done : Did old now (sets_of (text_presets (crate_tree krate) script))
-  pub room : HasSpare now ready
-
--- the script came back, and the first of its presets were made, or none
-pub record IsRefused (old now : BusTold) (krate : Crate) (script back : Script) : Type 0 where
-  pub same : back ≡ script
-  pub count : ℕ
-  pub done : Did old now (sets_of (take count (text_presets (crate_tree krate) script)))
 
 -- ---- begin, step
 

@@ -4,14 +4,12 @@
 
 mod course;
 mod deed;
-mod preparing;
 mod ready;
 mod role;
 mod running;
 mod stage;
 mod word;
 
-pub use preparing::prepare;
 pub use ready::Ready;
 pub use role::Role;
 pub use running::{begin, run, step};

@@ -1,7 +1,6 @@
 use Rattle.std.proofs.Common.{◌<◌, subst, sym, ap, ◌∙◌}
-use Rattle.frag_tree.specs.declared.event.Event.{Event}
 use Rattle.frag_eval.specs.declared.stage.Stage.{Stage}
-use Rattle.frag_eval.specs.Runs.{UnderWay, under_way}
+use Rattle.frag_eval.specs.Runs.{UnderWay}
 use Rattle.frag_eval.specs.Stages.{stage_seen}
 use Rattle.frag_eval.proofs.Stepping.{RunUpTo, begun, fewer, room_left, stepped, steps_left, stopped}
 use Rattle.frag_eval.proofs.running.run.Goals as goal
