@@ -1,0 +1,4 @@
+pub mod Words
+pub mod Leaving
+pub mod Coursing
+pub mod Stepping

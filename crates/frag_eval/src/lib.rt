@@ -1,0 +1,16 @@
+// Running scripts against crate texts over buses: a script is put into plain numbers against its crate, and
+// then run step by step, one access of the bus a step, without memory.
+#![tactic(auto)]
+
+mod course;
+mod deed;
+mod ready;
+mod role;
+mod running;
+mod stage;
+mod word;
+
+pub use ready::Ready;
+pub use role::Role;
+pub use running::{begin, run, step};
+pub use stage::{BusFault, Running, Stage};
