@@ -1,3 +1,3 @@
+pub mod Stopping
 pub mod Standing
 pub mod OneAnswer
-pub mod Resolved

@@ -13,12 +13,12 @@ use Rattle.svd_model.specs.declared.counted.Counted.{Counted}
 use Rattle.svd_model.specs.declared.counted.Counted.TheVariants as counted
 use Rattle.svd_reader.specs.declared.fault.SvdFault.{SvdFault}
 use Rattle.svd_reader.specs.declared.fault.SvdFault.TheVariants as svd
-use Rattle.pac_cli.specs.declared.fault.PacFault.{PacFault}
-use Rattle.pac_cli.specs.declared.fault.PacFault.TheVariants.{Memory, Words, Read, Write, Svd, Unbuilt, Dim, Check, Limit}
-use Rattle.pac_cli.specs.declared.fault.WordsFault.{WordsFault}
-use Rattle.pac_cli.specs.declared.fault.WordsFault.TheVariants.{Clap}
-use Rattle.pac_cli.specs.declared.fault.LimitFault.{LimitFault}
-use Rattle.pac_cli.specs.declared.fault.LimitFault.TheVariants.{FileTooLong, TooMany}
+use Rattle.pac_fault.specs.declared.fault.PacFault.{PacFault}
+use Rattle.pac_fault.specs.declared.fault.PacFault.TheVariants.{Memory, Words, Read, Write, Svd, Unbuilt, Dim, Check, Limit}
+use Rattle.pac_fault.specs.declared.fault.WordsFault.{WordsFault}
+use Rattle.pac_fault.specs.declared.fault.WordsFault.TheVariants.{Clap}
+use Rattle.pac_fault.specs.declared.fault.LimitFault.{LimitFault}
+use Rattle.pac_fault.specs.declared.fault.LimitFault.TheVariants.{FileTooLong, TooMany}
 
 unfoldable pub words_text : WordsFault → List ℕ
 words_text Clap = codes "usage: pac list SVD, generate SVD, exec CRATE SCRIPT, run SVD SCRIPT or sample NUMBER COUNT, with --patch P, --strict, --bus zero or memory"

@@ -1,5 +1,5 @@
-use Rattle.pac_cli.specs.FaultTexts.{text_of}
-use Rattle.pac_cli.proofs.fault_text.push_text.Goals as goal
+use Rattle.pac_fault.specs.FaultTexts.{text_of}
+use Rattle.pac_fault.proofs.fault_text.push_text.Goals as goal
 
 pub returns-in-Read : goal.returns-in-Read
 unfolding text_of

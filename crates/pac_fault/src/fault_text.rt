@@ -1,19 +1,31 @@
-ghost use Rattle.std.specs.Prelude.{◌≡◌, ◌++◌, OnOk, codes, decimal};
+ghost use Rattle.std.specs.Prelude.{◌≡◌, ◌++◌, IfOk, OnOk, codes, decimal};
 ghost use Rattle.std.specs.List.{flat_map};
-ghost use Rattle.pac_cli.specs.FaultTexts.{at_path, bad_text, check_text, counted_text, dim_text, index_text, limit_text, many_text, path_text, span_text, step_behind, step_text, svd_text, text_of, words_text};
+ghost use Rattle.pac_fault.specs.FaultTexts.{at_path, bad_text, check_text, counted_text, dim_text, fault_line, index_text, limit_text, many_text, path_text, span_text, step_behind, step_text, svd_text, text_of, words_text};
 
 use crate::fault::{LimitFault, PacFault, WordsFault};
 use dim_expand::DimFault;
 use overlap_check::CheckFault;
 use pac_base::{NoMemory, Span, Step};
 use pac_io::Page;
+use std::alloc::Global;
 use svd_keys::BadKind;
 use svd_model::Counted;
 use svd_reader::SvdFault;
 
+/// The line that tells of the fault: `pac: `, its text, and a line feed.
+pub fn fault_line(alloc: Global, fault: &PacFault) -> Result<Page, NoMemory>
+    ensures { IfOk result (λ page. page ≡ fault_line fault.now) }
+{
+    let mut page = Page::new(alloc);
+    page.push(b"pac: ")?;
+    push_text(&mut page, fault)?;
+    page.push(b"\n")?;
+    Ok(page)
+}
+
 /// Appends the text of the fault.
 #[tactic(auto, unfolding(crate::specs::FaultTexts::text_of))]
-pub(crate) fn push_text(page: &mut Page, fault: &PacFault) -> Result<(), NoMemory>
+fn push_text(page: &mut Page, fault: &PacFault) -> Result<(), NoMemory>
     ensures { OnOk result (page.new ≡ page.old ++ text_of fault.now) }
 {
     match fault {
