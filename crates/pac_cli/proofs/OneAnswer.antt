@@ -8,7 +8,7 @@ use Rattle.pac_words.specs.declared.command.Command.TheVariants.{Listing}
 use Rattle.pac_fault.specs.Classes.{Class, no_memory, bad_words, bad_read, bad_write, long_file, bad_input, class_of}
 use Rattle.pac_fault.specs.declared.fault.PacFault.{PacFault}
 use Rattle.pac_fault.specs.declared.fault.PacFault.TheVariants.{Memory}
-use Rattle.pac_cli.specs.Answers.{Cause, Plan, Answer, refused, does, listed, Decides, DecidesOn, DecidesListing, AnswersAsked, AnswersCommand, IsAnswer}
+use Rattle.pac_cli.specs.Answers.{Cause, Plan, Answer, refused, does, listed, Decides, DecidesOn, DecidesSource, AnswersAsked, AnswersCommand, IsAnswer}
 use Rattle.pac_inputs.specs.Gathering.{FileMap, Gathering, inputs_are, is_too_long, Gathered, gathered_from}
 use Rattle.pac_inputs.specs.declared.gathering.Wanted.{Wanted}
 use Rattle.pac_cli.specs.Inputs.{files_of}
@@ -24,14 +24,14 @@ OneReading = (bytes : List ℕ) (one other : Reading) → HasAnswer bytes one �
 same_resolution : OneReading → (source : SourceBytes) (one other : Resolution) → ComeTo source one → ComeTo source other → one ≡ other
 same_resolution read source one other a b = a.comes ∙ ap resolution_of (read source.svd a.reading b.reading a.read b.read) ∙ sym b.comes
 
-one_listing : OneReading → (inputs : List (List ℕ)) (one other : Answer) → DecidesListing inputs one → DecidesListing inputs other → one ≡ other
-one_listing read [] one other a b = absurd a
-one_listing read (svd ∷ []) one other a b = a.answered ∙ ap listed (same_resolution read (record { svd = svd }) a.resolution b.resolution a.comes b.comes) ∙ sym b.answered
-one_listing read (svd ∷ next ∷ inputs) one other a b = absurd a
+one_for_source : OneReading → (made : Resolution → Answer) (inputs : List (List ℕ)) (one other : Answer) → DecidesSource made inputs one → DecidesSource made inputs other → one ≡ other
+one_for_source read made [] one other a b = absurd a
+one_for_source read made (svd ∷ []) one other a b = a.answered ∙ ap made (same_resolution read (record { svd = svd }) a.resolution b.resolution a.comes b.comes) ∙ sym b.answered
+one_for_source read made (svd ∷ next ∷ inputs) one other a b = absurd a
 
 -- a command and its inputs decide one answer at most
 pub one_decision_lem : OneReading → (command : Command) (inputs : List (List ℕ)) (one other : Answer) → Decides command inputs one → Decides command inputs other → one ≡ other
-one_decision_lem read (Listing source) inputs one other a b = one_listing read inputs one other a b
+one_decision_lem read (Listing source) inputs one other a b = one_for_source read listed inputs one other a b
 
 one_on : OneReading → (command : Command) (gathering : Gathering) (one other : Answer) → DecidesOn command gathering one → DecidesOn command gathering other → one ≡ other
 one_on read command (inputs_are inputs) one other a b = one_decision_lem read command inputs one other a b

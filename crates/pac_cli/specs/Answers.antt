@@ -35,24 +35,27 @@ pub data Answer : Type 0 where
   refused : Cause → Answer
   does : Plan → Answer
 
+-- ---- commands over a description
+
 -- what listing a description answers, by what that comes to
 unfoldable pub listed : Resolution → Answer
 listed (stopped why) = refused (unresolved why)
 listed (resolved rows) = does (prints (listing (table_of rows)))
 
--- a description of these files is listed so
-pub record ListsAs (source : SourceBytes) (answer : Answer) : Type 0 where
+-- the answer that is made of what the files of a description come to
+pub record AnswersSource (made : Resolution → Answer) (source : SourceBytes) (answer : Answer) : Type 0 where
   pub resolution : Resolution
   pub comes : ComeTo source resolution
-  pub answered : answer ≡ listed resolution
+  pub answered : answer ≡ made resolution
 
-abbrev pub DecidesListing : List (List ℕ) → Answer → Type 0
-DecidesListing (svd ∷ []) answer = ListsAs (record { svd = svd }) answer
-DecidesListing _ answer = ⊥
+-- the same of the inputs of a command whose files are those of a description
+abbrev pub DecidesSource : (Resolution → Answer) → List (List ℕ) → Answer → Type 0
+DecidesSource made (svd ∷ []) answer = AnswersSource made (record { svd = svd }) answer
+DecidesSource made _ answer = ⊥
 
 -- the answer to a command with these inputs
 abbrev pub Decides : Command → List (List ℕ) → Answer → Type 0
-Decides (Listing source) inputs answer = DecidesListing inputs answer
+Decides (Listing source) inputs answer = DecidesSource listed inputs answer
 
 -- the answer to a command by what reading its files came to
 abbrev pub DecidesOn : Command → Gathering → Answer → Type 0

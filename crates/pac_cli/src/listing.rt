@@ -1,5 +1,5 @@
 ghost use Rattle.std.specs.Prelude.{◌≤◌, length};
-ghost use Rattle.pac_cli.specs.Answers.{ListsAs};
+ghost use Rattle.pac_cli.specs.Answers.{AnswersSource, listed};
 ghost use Rattle.pac_cli.specs.Stages.{Does};
 ghost use Rattle.pac_cli.specs.Worlds.{paper};
 
@@ -12,7 +12,7 @@ use std::alloc::Global;
 /// Writes a line for each register of a description, and one for each of its fields.
 pub(crate) fn list<S: Sink>(alloc: Global, svd: &[u8], out: &mut S) -> Result<(), PacFault>
     requires { length svd.now ≤ 67_108_864 }
-    ensures { Does (ListsAs (record { svd = svd.now }))
+    ensures { Does (AnswersSource listed (record { svd = svd.now }))
         (paper (S.written out.old) (S.faults out.old))
         (paper (S.written out.new) (S.faults out.new))
         result }

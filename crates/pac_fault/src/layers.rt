@@ -64,10 +64,16 @@ impl<S: Drop> From<Back<S, UnbuiltFault>> for PacFault {
     ghost from_gives = { λ error fault. fault ≡ of_passage error.fault };
 
     fn from(error: Back<S, UnbuiltFault>) -> PacFault {
-        match error.fault {
-            UnbuiltFault::Unbuilt { path } => PacFault::Unbuilt { path },
-            UnbuiltFault::Memory => PacFault::Memory,
-        }
+        of_passage(error.fault)
+    }
+}
+
+fn of_passage(fault: UnbuiltFault) -> PacFault
+    ensures { result ≡ of_passage fault }
+{
+    match fault {
+        UnbuiltFault::Unbuilt { path } => PacFault::Unbuilt { path },
+        UnbuiltFault::Memory => PacFault::Memory,
     }
 }
 

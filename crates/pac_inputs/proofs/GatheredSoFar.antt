@@ -1,6 +1,7 @@
 -- How far reading the files of a command has come.
 use Rattle.std.proofs.Common.{ℕ, ◌≡◌, ◌⊎◌, ◌≤◌, ◌<◌, List, [], ◌∷◌, ◌++◌, map, length, nat_le, Bool, true, false, Option, Some, None, IfSome, IsSomeAnd, option_map, if◌then◌else◌, refl, sym, ap, ◌∙◌, subst, inl, inr, arith}
-use Rattle.std.proofs.lemmas.List.{append-nil, append-assoc, map-append}
+use Rattle.std.proofs.lemmas.Bool.Decides.{nat_tests}
+use Rattle.std.proofs.lemmas.List.{append-nil, append_assoc, map-append}
 use Rattle.pac_io.specs.Asking.{and_asked}
 use Rattle.pac_io.specs.Rose.{Rose}
 use Rattle.pac_fault.specs.declared.fault.PacFault.{PacFault}
@@ -56,7 +57,7 @@ asked_more : (old now new : Option (List (List ℕ))) (before : List Wanted) (fi
 asked_more None now new before file h asked = tt
 asked_more (Some names) now new before file h asked =
     asked ∙ ap (λ o. and_asked o file.name) h
-    ∙ ap Some (append-assoc names (names_of before) (file.name ∷ []) ∙ ap (λ more. names ++ more) (sym (map-append (λ (f : Wanted). f.name) before (file ∷ []))))
+    ∙ ap Some (append_assoc names (names_of before) (file.name ∷ []) ∙ ap (λ more. names ++ more) (sym (map-append (λ (f : Wanted). f.name) before (file ∷ []))))
 
 asks_more : (old now new : Shelf) (before : List Wanted) (file : Wanted) → Asks old now before → new.files ≡ now.files → new.asked ≡ and_asked now.asked file.name
     → Asks old new (before ++ file ∷ [])
@@ -92,14 +93,14 @@ past_limit true file bytes others is = let e : true ≡ false = is in absurd (cc
 one_further : (inputs : List (List ℕ)) (bytes : List ℕ) (others : Option Gathering)
     → option_map (and_these inputs) (option_map (and_then bytes) others) ≡ option_map (and_these (inputs ++ bytes ∷ [])) others
 one_further inputs bytes None = refl
-one_further inputs bytes (Some (inputs_are later)) = ap (λ all. Some (inputs_are all)) (sym (append-assoc inputs (bytes ∷ []) later))
+one_further inputs bytes (Some (inputs_are later)) = ap (λ all. Some (inputs_are all)) (sym (append_assoc inputs (bytes ∷ []) later))
 one_further inputs bytes (Some (is_too_long file)) = refl
 
 le_true : (m n : ℕ) → m ≤ n → nat_le m n ≡ true
-le_true m n h = search (h, nat_tests, arith)
+le_true m n h = grind (arith, nat_tests, h)
 
 le_false : (m n : ℕ) → n < m → nat_le m n ≡ false
-le_false m n h = search (h, nat_tests, arith)
+le_false m n h = grind (arith, nat_tests, h)
 
 told_more : (told : Option FileMap) (wanted left : List Wanted) (inputs : List (List ℕ)) (file : Wanted) (bytes : List ℕ) → length bytes ≤ file.limit
     → IfSome told (λ files. gathered_from files wanted ≡ option_map (and_these inputs) (gathered_from files (file ∷ left)))
@@ -112,19 +113,19 @@ told_more (Some files) wanted left inputs file bytes within h stands =
     ∙ at_limit (nat_le (length bytes) file.limit) file bytes (gathered_from files left) (le_true (length bytes) file.limit within))
     ∙ one_further inputs bytes (gathered_from files left)
 
-same_told : {P : FileMap → Type 0} (old now : Option FileMap) → now ≡ old → IfSome now P → IfSome old P
-same_told {P} old now same h = subst (λ (o : Option FileMap). IfSome o P) same h
+same_told : (P : FileMap → Type 0) (old now : Option FileMap) → now ≡ old → IfSome now P → IfSome old P
+same_told P old now same h = subst (λ (o : Option FileMap). IfSome o P) same h
 
 -- one more file was read
 pub went_on : (wanted left : List Wanted) (inputs : List (List ℕ)) (file : Wanted) (bytes : List ℕ) (old now new : Shelf)
     → GatheredSoFar wanted (file ∷ left) inputs old now → HasRead file bytes now new → GatheredSoFar wanted left (inputs ++ bytes ∷ []) old new
 went_on wanted left inputs file bytes old now new h r = record {
   before = h.before ++ file ∷ [];
-  first = append-assoc h.before (file ∷ []) left ∙ h.first;
+  first = append_assoc h.before (file ∷ []) left ∙ h.first;
   asks = asks_more old now new h.before file h.asks r.same_files r.asked;
   count = r.count ∙ h.count;
   fits = fit_more h.before inputs file bytes h.fits r.within;
-  told = told_more old.files wanted left inputs file bytes r.within h.told (same_told old.files now.files h.asks.same_files r.stands);
+  told = told_more old.files wanted left inputs file bytes r.within h.told (same_told _ old.files now.files h.asks.same_files r.stands);
 }
 
 -- memory was wanting behind a file that was read, or at one
@@ -143,7 +144,7 @@ one_asked wanted left inputs file old now new h same (inl before) = record { bef
 one_asked wanted left inputs file old now new h same (inr asked) = record {
   before = h.before ++ file ∷ [];
   later = left;
-  first = append-assoc h.before (file ∷ []) left ∙ h.first;
+  first = append_assoc h.before (file ∷ []) left ∙ h.first;
   asks = asks_more old now new h.before file h.asks same asked;
 }
 
@@ -175,7 +176,7 @@ broke_at (long_file name limit) wanted left inputs file old now new fault h r =
       told_as = subst (λ (l : Wanted). fault ≡ Limit (FileTooLong l.name l.limit)) (sym r.same_file) r.told_as;
       asks = record { before = h.before; later = left; first = h.first; asks = asks_more old now new h.before file h.asks r.same_files r.asked };
       count = r.count ∙ h.count;
-      gathered = at_long old.files wanted left inputs file h.told (same_told old.files now.files h.asks.same_files r.beyond);
+      gathered = at_long old.files wanted left inputs file h.told (same_told _ old.files now.files h.asks.same_files r.beyond);
     })
 broke_at bad_input wanted left inputs file old now new fault h r = absurd r
 
