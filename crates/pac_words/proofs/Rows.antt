@@ -3,7 +3,7 @@ use Rattle.std.proofs.Common.{◌≡◌, refl, Option, Some, None, List, [], ◌
 use Rattle.clap.proofs.OnLiterals.{clap_on_literals}
 use Rattle.pac_words.specs.Commands.{command_of}
 use Rattle.pac_words.specs.declared.command.Command.{Command}
-use Rattle.pac_words.specs.declared.command.Command.TheVariants.{Listing}
+use Rattle.pac_words.specs.declared.command.Command.TheVariants.{Generating, Listing}
 
 listing_of : List ℕ → Option Command
 listing_of svd = Some (Listing (record { svd = svd }))
@@ -49,7 +49,11 @@ two_files : command_of (codes "list" ∷ codes "x.svd" ∷ codes "y.svd" ∷ [])
 unfolding clap_on_literals command_of
 two_files = refl
 
+generated : command_of (codes "generate" ∷ codes "x.svd" ∷ []) ≡ Some (Generating (record { svd = codes "x.svd" }))
+unfolding clap_on_literals command_of
+generated = refl
+
 -- a command that isn't built is none
-not_built : command_of (codes "generate" ∷ codes "x.svd" ∷ []) ≡ None
+not_built : command_of (codes "exec" ∷ codes "x.rs" ∷ codes "y" ∷ []) ≡ None
 unfolding clap_on_literals command_of
 not_built = refl

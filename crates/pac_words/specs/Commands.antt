@@ -4,7 +4,7 @@ use Rattle.std.specs.Str.{bytes_eq}
 use Rattle.clap.specs.Words.{Kinds, Row, Text, fault_of, first_of, subcommand_of}
 use Rattle.pac_words.specs.Table.{table}
 use Rattle.pac_words.specs.declared.command.Command.{Command}
-use Rattle.pac_words.specs.declared.command.Command.TheVariants.{Listing}
+use Rattle.pac_words.specs.declared.command.Command.TheVariants.{Generating, Listing}
 use Rattle.pac_words.specs.declared.command.Source.{Source}
 
 -- the files that a description comes from, by what was found for the arguments
@@ -14,9 +14,12 @@ source_of rows = option_map (λ svd. record { svd = svd }) (first_of (codes "svd
 abbrev pub listing : List Row → Option Command
 listing rows = option_map Listing (source_of rows)
 
+abbrev pub generating : List Row → Option Command
+generating rows = option_map Generating (source_of rows)
+
 -- the command of this name, by what was found for its arguments
 abbrev pub told : Text → List Row → Option Command
-told name rows = if bytes_eq name (codes "list") then listing rows else None
+told name rows = if bytes_eq name (codes "list") then listing rows else (if bytes_eq name (codes "generate") then generating rows else None)
 
 -- the command of the subcommand that was met
 abbrev pub chosen : Option (Text × List Row) → Option Command

@@ -14,6 +14,9 @@ command name rules = record (new_shape name) { rules = rules }
 abbrev pub list : Shape
 list = command (codes "list") (file (codes "svd") ∷ [])
 
+abbrev pub generate : Shape
+generate = command (codes "generate") (file (codes "svd") ∷ [])
+
 -- one of the commands has to be chosen, and no word asks for help
 abbrev pub table : App
 table = record {
@@ -24,5 +27,5 @@ table = record {
     disable_help_subcommand = true;
     subcommand_required = true;
   };
-  subs = list ∷ [];
+  subs = list ∷ generate ∷ [];
 }

@@ -1,6 +1,6 @@
 ghost use Rattle.std.specs.Prelude.{◌≡◌, IfOk, map};
 ghost use Rattle.clap.specs.Words.{first_of, found_of, rows_of};
-ghost use Rattle.pac_words.specs.Commands.{command_of, listing, source_of, told};
+ghost use Rattle.pac_words.specs.Commands.{command_of, generating, listing, source_of, told};
 
 use crate::table::table;
 use clap::ArgMatches;
@@ -13,6 +13,11 @@ use std::alloc::Global;
 pub enum Command {
     /// `list SVD`: a line for each register of a description, and one for each of its fields.
     Listing {
+        /// The description.
+        source: Source,
+    },
+    /// `generate SVD`: the text of a peripheral access crate.
+    Generating {
         /// The description.
         source: Source,
     },
@@ -63,6 +68,7 @@ fn told(alloc: Global, name: &str, matches: &ArgMatches<'_>) -> Result<Option<Co
 {
     match name {
         "list" => listing(alloc, matches),
+        "generate" => generating(alloc, matches),
         _ => Ok(None),
     }
 }
@@ -72,6 +78,15 @@ fn listing(alloc: Global, matches: &ArgMatches<'_>) -> Result<Option<Command>, N
 {
     match source_of(alloc, matches)? {
         Some(source) => Ok(Some(Command::Listing { source })),
+        None => Ok(None),
+    }
+}
+
+fn generating(alloc: Global, matches: &ArgMatches<'_>) -> Result<Option<Command>, NoMemory>
+    ensures { IfOk result (λ command. command ≡ generating (rows_of (found_of matches.now))) }
+{
+    match source_of(alloc, matches)? {
+        Some(source) => Ok(Some(Command::Generating { source })),
         None => Ok(None),
     }
 }

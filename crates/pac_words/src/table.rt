@@ -1,7 +1,7 @@
 ghost use Rattle.std.specs.Prelude.{◌≡◌, IfOk, false};
 ghost use Rattle.clap.specs.Words.{app_of, rule_of, shape_of};
 ghost use Rattle.clap.specs.declared.builder.command.Command.TheViews.{out-Command as fields_of};
-ghost use Rattle.pac_words.specs.Table.{file, list, table};
+ghost use Rattle.pac_words.specs.Table.{file, generate, list, table};
 
 use clap::{Arg, Command};
 use std::alloc::{AllocError, Global};
@@ -20,6 +20,12 @@ fn list<'a>(alloc: Global) -> Result<Command<'a>, AllocError>
     Command::new(alloc, "list").arg(file(alloc, "svd"))
 }
 
+fn generate<'a>(alloc: Global) -> Result<Command<'a>, AllocError>
+    ensures { IfOk result (λ command. (shape_of command ≡ generate) × ((fields_of command).has_globals ≡ false)) }
+{
+    Command::new(alloc, "generate").arg(file(alloc, "svd"))
+}
+
 /// The commands that are built. One has to be chosen, and no word asks for help.
 pub(crate) fn table<'a>(alloc: Global) -> Result<Command<'a>, AllocError>
     ensures { IfOk result (λ command. app_of command ≡ table) }
@@ -29,5 +35,6 @@ pub(crate) fn table<'a>(alloc: Global) -> Result<Command<'a>, AllocError>
         .disable_help_flag(true)
         .disable_help_subcommand(true)
         .subcommand_required(true)
-        .subcommand(list(alloc)?)
+        .subcommand(list(alloc)?)?
+        .subcommand(generate(alloc)?)
 }
