@@ -43,13 +43,16 @@ the_answer words command told answer gathering taken gathered decided =
 -- the words were refused, or memory was wanting for them
 not_asked : (class : Class) (words : List (List ℕ)) (now : World) (fault : PacFault) → AsksNot class words fault → StandsIn class words now now fault
 not_asked no_memory words now fault h = record { told_as = h; asks = asks_no_file (wanted words) now.shelf; reads = refl; writes = refl; output = inl refl }
-not_asked bad_words words now fault h = (asks_nothing now.shelf, record {
-  reads = refl;
-  writes = still now.paper;
-  cause = no_command;
-  answered = subst (λ (asked : Option Command). AnswersAsked asked now.shelf.files (refused no_command)) (sym h.0) refl;
-  shown = h.1;
-})
+not_asked bad_words words now fault h = (
+  asks_nothing now.shelf,
+  record {
+    reads = refl;
+    writes = still now.paper;
+    cause = no_command;
+    answered = subst (λ (asked : Option Command). AnswersAsked asked now.shelf.files (refused no_command)) (sym h.0) refl;
+    shown = h.1;
+  },
+)
 not_asked (bad_read name) words now fault h = absurd h
 not_asked bad_write words now fault h = absurd h
 not_asked (long_file name limit) words now fault h = absurd h
@@ -82,14 +85,16 @@ not_read (bad_read name) words command old new paper fault taken h = record {
 }
 not_read bad_write words command old new paper fault taken h = absurd h
 not_read (long_file name limit) words command old new paper fault taken h =
-    let file : Wanted = record { name = name; limit = limit } in
-    (subst (λ (files : List Wanted). AsksUpTo file files old new) (the_files words command taken) h.asks, record {
-      reads = h.count;
-      writes = still paper;
-      cause = file_too_long name limit;
-      answered = the_answer words command old.files (refused (file_too_long name limit)) (is_too_long file) taken h.gathered refl;
-      shown = h.told_as;
-    })
+    let file : Wanted = record { name = name; limit = limit } in (
+      subst (λ (files : List Wanted). AsksUpTo file files old new) (the_files words command taken) h.asks,
+      record {
+        reads = h.count;
+        writes = still paper;
+        cause = file_too_long name limit;
+        answered = the_answer words command old.files (refused (file_too_long name limit)) (is_too_long file) taken h.gathered refl;
+        shown = h.told_as;
+      },
+    )
 not_read bad_input words command old new paper fault taken h = absurd h
 
 pub not_gathered : (words : List (List ℕ)) (command : Command) (old new : Shelf) (paper : Paper) (fault : PacFault) → command_of words ≡ Some command
@@ -125,13 +130,16 @@ module _ (words : List (List ℕ)) (command : Command) (inputs : List (List ℕ)
   not_done (bad_read name) paper later fault h = absurd h
   not_done bad_write paper later fault h = record { asks = asks_all; reads = read.count; rose = h.rose; output = part_of paper later h.output }
   not_done (long_file name limit) paper later fault h = absurd h
-  not_done bad_input paper later fault h = (asks_all, record {
-    reads = read.count;
-    writes = h.writes;
-    cause = h.cause;
-    answered = answered (refused h.cause) h.decided;
-    shown = h.shown;
-  })
+  not_done bad_input paper later fault h = (
+    asks_all,
+    record {
+      reads = read.count;
+      writes = h.writes;
+      cause = h.cause;
+      answered = answered (refused h.cause) h.decided;
+      shown = h.shown;
+    },
+  )
 
   pub performed : {T : Type 0} (paper later : Paper) (result : Result T PacFault) → Does (Decides command inputs) paper later result
       → Stands words (world old paper) (world new later) (result_err result)

@@ -1,5 +1,5 @@
 -- From what each stage over a description leaves to what its files come to.
-use Rattle.std.proofs.Common.{ℕ, ◌≡◌, List, [], ◌∷◌, map, Option, Some, None, option_map, option_and_then, refl, sym, ap, ◌∙◌, subst}
+use Rattle.std.proofs.Common.{ℕ, ◌≡◌, List, [], ◌∷◌, map, Option, Some, None, option_map, option_and_then, Result, Ok, Err, refl, sym, ap, ap₂, ◌∙◌, subst}
 use Rattle.pac_base.specs.declared.path.Step.{Step as NamedStep}
 use Rattle.dim_expand.specs.declared.fault.DimFault.{DimFault}
 use Rattle.dim_expand.specs.declared.fault.DimFault.TheVariants as dim
@@ -14,9 +14,10 @@ use Rattle.svd_model.specs.declared.passages.UnbuiltFault.{UnbuiltFault}
 use Rattle.svd_model.specs.declared.passages.UnbuiltFault.TheVariants as passage
 use Rattle.svd_model.specs.Keys.{Key}
 use Rattle.svd_model.specs.Steps.{Step}
-use Rattle.svd_model.specs.Unbuilt.{first_source}
+use Rattle.svd_model.specs.Unbuilt.{first_source, PassesUnless}
 use Rattle.svd_reader.specs.Described.{Answer as Reading, no_text, too_deep, at_fault, too_many as too_many_read, described, HasAnswer}
-use Rattle.svd_reader.specs.Refusals.{Tells}
+use Rattle.svd_keys.specs.declared.fault.Fault.TheVariants as keys
+use Rattle.svd_reader.specs.Refusals.{OrMemory, Refuses}
 use Rattle.svd_reader.specs.declared.fault.SvdFault.{SvdFault}
 use Rattle.svd_reader.specs.declared.fault.SvdFault.TheVariants as svd
 use Rattle.svd_rows.specs.Rows.{Row}
@@ -28,10 +29,10 @@ use Rattle.pac_cli.specs.Resolving.{Unresolved, no_description, nests_too_deep, 
 use Rattle.pac_cli.specs.Showing.{ShowsUnresolved}
 use Rattle.pac_cli.specs.Stages.{ResolvesNot}
 
-abbrev Rows : Type 0
+abbrev pub Rows : Type 0
 Rows = List (Row Step Key)
 
-abbrev source_of : List ℕ → SourceBytes
+abbrev pub source_of : List ℕ → SourceBytes
 source_of bytes = record { svd = bytes }
 
 -- ---- reading
@@ -41,18 +42,19 @@ unfolding resolution_of
 stops_read bytes reading why has is = record { reading = reading; read = has; comes = ap (λ come. then_by by_checking (then_by by_unfolding (then_by by_deriving come))) (sym is) }
 
 -- the bytes aren't a description
-pub not_described : (bytes : List ℕ) (fault : SvdFault) (reading : Reading) → HasAnswer bytes reading → Tells fault reading → ResolvesNot (class_of (of_reading fault)) (source_of bytes) (of_reading fault)
+pub not_described : (bytes : List ℕ) (fault : SvdFault) → OrMemory fault (Refuses bytes fault) → ResolvesNot (class_of (of_reading fault)) (source_of bytes) (of_reading fault)
 unfolding by_reading
-not_described bytes (svd.Syntax at) reading has tells = (no_description, stops_read bytes reading no_description has (ap by_reading tells), (at, refl))
-not_described bytes (svd.TooDeep span) reading has tells = (nests_too_deep (span.start, span.end), stops_read bytes reading _ has (ap by_reading tells), (span, refl, refl))
-not_described bytes (svd.UnknownElement span) reading has tells = (misdescribed _, stops_read bytes reading _ has (ap by_reading tells), (svd.UnknownElement span, refl, refl))
-not_described bytes (svd.DoubleElement span) reading has tells = (misdescribed _, stops_read bytes reading _ has (ap by_reading tells), (svd.DoubleElement span, refl, refl))
-not_described bytes (svd.DoubleName span) reading has tells = (misdescribed _, stops_read bytes reading _ has (ap by_reading tells), (svd.DoubleName span, refl, refl))
-not_described bytes (svd.BadValue span kind) reading has tells = (misdescribed _, stops_read bytes reading _ has (ap by_reading tells), (svd.BadValue span kind, refl, refl))
-not_described bytes (svd.MissingElement span key) reading has tells =
-    (misdescribed _, stops_read bytes reading _ has (ap by_reading tells.1), (svd.MissingElement span key, (tells.0, refl, tells.2), refl))
-not_described bytes (svd.TooMany kind count) reading has tells = (too_many kind count, stops_read bytes reading (too_many kind count) has (ap by_reading tells.1 ∙ cc (tells.2, tells.3)), refl)
-not_described bytes svd.Memory reading has tells = absurd tells
+not_described bytes (svd.Syntax at) h = (no_description, stops_read bytes h.0 _ h.1 (ap by_reading h.2), (at, refl))
+not_described bytes (svd.TooDeep span) h = (nests_too_deep (span.start, span.end), stops_read bytes h.0 _ h.1 (ap by_reading h.2), (span, refl, refl))
+not_described bytes (svd.UnknownElement span) h = (misdescribed (keys.UnknownElement span), stops_read bytes h.0 _ h.1 (ap by_reading h.2), (svd.UnknownElement span, refl, refl))
+not_described bytes (svd.DoubleElement span) h = (misdescribed (keys.DoubleElement span), stops_read bytes h.0 _ h.1 (ap by_reading h.2), (svd.DoubleElement span, refl, refl))
+not_described bytes (svd.DoubleName span) h = (misdescribed (keys.DoubleName span), stops_read bytes h.0 _ h.1 (ap by_reading h.2), (svd.DoubleName span, refl, refl))
+not_described bytes (svd.BadValue span kind) h = (misdescribed (keys.BadValue span kind), stops_read bytes h.0 _ h.1 (ap by_reading h.2), (svd.BadValue span kind, refl, refl))
+not_described bytes (svd.MissingElement span key) h =
+    (misdescribed (keys.MissingElement span h.2.0), stops_read bytes h.0 _ h.1 (ap by_reading h.2.1), (svd.MissingElement span key, (h.2.0, refl, h.2.2), refl))
+not_described bytes (svd.TooMany kind count) h =
+    (too_many kind count, stops_read bytes h.0 _ h.1 (ap by_reading h.2.1 ∙ ap₂ (λ k n. stopped (too_many k n)) (sym h.2.2) (sym h.2.3)), refl)
+not_described bytes svd.Memory h = refl
 
 -- ---- the stages behind it
 
@@ -80,6 +82,12 @@ unfolds_to derived made h = rw (h.1, h.0) refl
 pub not_derived : (bytes : List ℕ) (read : Rows) (path : List NamedStep) → HasAnswer bytes (described read) → first_source read ≡ Some path → ComeTo (source_of bytes) (stopped (unbuilt path))
 unfolding by_deriving
 not_derived bytes read path has is = reads_to bytes read (stopped (unbuilt path)) has (rw is refl)
+
+-- an element is derived, or memory was wanting
+pub not_passed : (bytes : List ℕ) (read passed state : Rows) (fault : UnbuiltFault) → HasAnswer bytes (described read) → passed ≡ read
+    → PassesUnless (first_source passed) (Err (record { state = state; fault = fault })) → ResolvesNot (class_of (of_passage fault)) (source_of bytes) (of_passage fault)
+not_passed bytes read passed state (passage.Unbuilt path) has same h = (unbuilt path, not_derived bytes read path has (ap first_source (sym same) ∙ h), refl)
+not_passed bytes read passed state passage.Memory has same h = refl
 
 -- a dimension or a count is at fault
 dim_stopped : (bytes : List ℕ) (read derived : Rows) (fault : DimFault) (why : Unresolved) → HasAnswer bytes (described read) → Derives read derived → first_fault derived ≡ Some fault

@@ -31,11 +31,7 @@ fn two_files(rt: HostRuntime) -> Result<(), Fail> {
 }
 
 /// Reads the two files, and compares.
-fn gathers(
-    rt: &(impl Abort + AllocGlobal),
-    mut files: MemFiles,
-    wanted: &str,
-) -> Result<(), Fail> {
+fn gathers(rt: &(impl Abort + AllocGlobal), mut files: MemFiles, wanted: &str) -> Result<(), Fail> {
     let names = vec![in rt.alloc(); file(rt, "a", 8)?, file(rt, "b", 3)?]?;
     let mut found = MemSink::new(rt.alloc());
     match gather(rt.alloc(), names, &mut files) {

@@ -105,7 +105,10 @@ fn sinks_whose_second_write_fails(rt: HostRuntime) -> Result<(), Fail> {
     let outcome = run_pac(rt.alloc(), words.as_slice(), &mut files, &mut out, &mut err);
     assert_eq!(rt; outcome.status, 4);
     assert_eq!(rt; err.written(), b"pac: cannot write\n".as_slice());
-    assert!(rt; out.written().starts_with(b"T.r[0] 0x40000000 32 rw 0x00000000\n"));
+    assert!(rt;
+        out.written()
+            .starts_with(b"T.r[0] 0x40000000 32 rw 0x00000000\n")
+    );
     Ok(())
 }
 

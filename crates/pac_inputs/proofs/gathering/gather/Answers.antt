@@ -21,9 +21,11 @@ nothing_left (file ∷ left) h = absurd (omega arith)
 pub loop-file-init : goal.loop-file-init
 loop-file-init g c =
     let same = c.into_iter-file-iterator.ensures.into_iter_gives in
-    let now = shelf (g.F.Files.told c.args.files.now) (g.F.Files.asked c.args.files.now) (g.F.Files.faults c.args.files.now) in
-    (subst (λ (inputs : List (List ℕ)). GatheredSoFar c.args.wanted.items (into_iter_items c.into_iter-file-iterator.result) inputs now now) (sym c.new-inputs.ensures)
-    (subst (λ (files : List Wanted). GatheredSoFar c.args.wanted.items files [] now now) (sym same.0) (begun c.args.wanted.items now)), search rules)
+    let now = shelf (g.F.Files.told c.args.files.now) (g.F.Files.asked c.args.files.now) (g.F.Files.faults c.args.files.now) in (
+      subst (λ (inputs : List (List ℕ)). GatheredSoFar c.args.wanted.items (into_iter_items c.into_iter-file-iterator.result) inputs now now) (sym c.new-inputs.ensures)
+          (subst (λ (files : List Wanted). GatheredSoFar c.args.wanted.items files [] now now) (sym same.0) (begun c.args.wanted.items now)),
+      search rules,
+    )
 
 pub returns-in_err-bytes : goal.returns-in_err-bytes
 returns-in_err-bytes g c =
