@@ -30,11 +30,11 @@ use Rattle.svd_rows.proofs.LookUps.{keys_of-rows}
 
 -- ---- lists
 
-append-none : {X : Type 0} (xs ys : List X) → xs ++ ys ≡ [] → (xs ≡ []) × (ys ≡ [])
+pub append-none : {X : Type 0} (xs ys : List X) → xs ++ ys ≡ [] → (xs ≡ []) × (ys ≡ [])
 append-none [] ys e = (refl, e)
 append-none (x ∷ xs) ys e = absurd cc
 
-map-none : {X Y : Type 0} (f : X → Y) (xs : List X) → map f xs ≡ [] → xs ≡ []
+pub map-none : {X Y : Type 0} (f : X → Y) (xs : List X) → map f xs ≡ [] → xs ≡ []
 map-none f [] e = refl
 map-none f (x ∷ xs) e = absurd cc
 
@@ -46,7 +46,7 @@ none-pass test (x ∷ xs) e = cases (test x) refl e (none-pass test xs)
     cases true is e rest = absurd cc
     cases false is e rest = (is, rest e)
 
-none-pass_of : {X : Type 0} (test of : X → Bool) (xs : List X) → filter test (filter of xs) ≡ [] → AllByRecursion (λ x. of x ≡ true → test x ≡ false) xs
+pub none-pass_of : {X : Type 0} (test of : X → Bool) (xs : List X) → filter test (filter of xs) ≡ [] → AllByRecursion (λ x. of x ≡ true → test x ≡ false) xs
 none-pass_of test of [] e = tt
 none-pass_of {X = X} test of (x ∷ xs) e = cases (of x) refl e (none-pass_of test of xs)
   where
@@ -59,7 +59,7 @@ none-pass_of {X = X} test of (x ∷ xs) e = cases (of x) refl e (none-pass_of te
     cases false is e rest = ((λ yes. absurd (let no = sym is ∙ yes in cc)), rest e)
 
 -- three facts of each together
-joined : {X Y : Type 0} (view : X → Y) (P Q R : X → Type 0) (S : Y → Type 0) → ((x : X) → P x → Q x → R x → S (view x)) → (xs : List X) → AllByRecursion P xs → AllByRecursion Q xs → AllByRecursion R xs → AllByRecursion S (map view xs)
+pub joined : {X Y : Type 0} (view : X → Y) (P Q R : X → Type 0) (S : Y → Type 0) → ((x : X) → P x → Q x → R x → S (view x)) → (xs : List X) → AllByRecursion P xs → AllByRecursion Q xs → AllByRecursion R xs → AllByRecursion S (map view xs)
 joined view P Q R S make [] p q r = tt
 joined view P Q R S make (x ∷ xs) p q r = (make x p.0 q.0 r.0, joined view P Q R S make xs p.1 q.1 r.1)
 
@@ -71,17 +71,17 @@ left_false : (a b : Bool) → (a || b) ≡ false → a ≡ false
 left_false true b h = absurd cc
 left_false false b h = refl
 
-not_false : (b : Bool) → not b ≡ false → b ≡ true
+pub not_false : (b : Bool) → not b ≡ false → b ≡ true
 not_false true h = refl
 not_false false h = absurd cc
 
 -- ---- the members of an element
 
-abbrev HasMembers : List Key → Type 0
+abbrev pub HasMembers : List Key → Type 0
 HasMembers keys = value_of stated_dim keys ≡ Some 0 → ⊥
 
 -- each element on the way down has members, and this one among them
-abbrev Chosen : List (List Key) → List (Option ℕ) → Type 0
+abbrev pub Chosen : List (List Key) → List (Option ℕ) → Type 0
 Chosen [] [] = Unit {0}
 Chosen [] (index ∷ chosen) = ⊥
 Chosen (keys ∷ down) [] = ⊥
@@ -125,7 +125,7 @@ module _ (f : List (Option ℕ) → Bool) (others : List (List (Option ℕ))) wh
   passed (Some (suc n)) (Some i) some among e = (Some i, refl, ap (λ m. list_any (λ chosen. f (Some m ∷ chosen)) others) (omega arith) ∙ in_range 0 (suc n) i among e)
 
 -- a test that no member passes, this one doesn't
-none-chosen : (test : ℕ → Bool) (down : List (List Key)) (chosen : List (Option ℕ)) → Chosen down chosen → list_any (λ member. test (address_of down member)) (members_of down) ≡ false → test (address_of down chosen) ≡ false
+pub none-chosen : (test : ℕ → Bool) (down : List (List Key)) (chosen : List (Option ℕ)) → Chosen down chosen → list_any (λ member. test (address_of down member)) (members_of down) ≡ false → test (address_of down chosen) ≡ false
 unfolding members_of choices address_of
 none-chosen test [] [] has e = left_false (test 0) false e
 none-chosen test [] (index ∷ chosen) has e = absurd has
@@ -149,20 +149,20 @@ none-past : (room : ℕ) (down : List (List Key)) (chosen : List (Option ℕ)) �
 unfolding some_past
 none-past room down chosen has e = not-past room (address_of down chosen) (none-chosen (is_past room) down chosen has e)
 
-further : (down : List (List Key)) (chosen : List (Option ℕ)) (keys : List Key) (index : Option ℕ) → Chosen down chosen → HasMembers keys → IsAmong (value_of stated_dim keys) index → Chosen (down ++ keys ∷ []) (chosen ++ index ∷ [])
+pub further : (down : List (List Key)) (chosen : List (Option ℕ)) (keys : List Key) (index : Option ℕ) → Chosen down chosen → HasMembers keys → IsAmong (value_of stated_dim keys) index → Chosen (down ++ keys ∷ []) (chosen ++ index ∷ [])
 further [] [] keys index has some among = (some, among, tt)
 further [] (other ∷ chosen) keys index has some among = absurd has
 further (first ∷ down) [] keys index has some among = absurd has
 further (first ∷ down) (other ∷ chosen) keys index has some among = (has.0, has.1, further down chosen keys index has.2 some among)
 
-as_many : (down : List (List Key)) (chosen : List (Option ℕ)) → Chosen down chosen → length down ≡ length chosen
+pub as_many : (down : List (List Key)) (chosen : List (Option ℕ)) → Chosen down chosen → length down ≡ length chosen
 as_many [] [] has = refl
 as_many [] (index ∷ chosen) has = absurd has
 as_many (keys ∷ down) [] has = absurd has
 as_many (keys ∷ down) (index ∷ chosen) has = ap suc (as_many down chosen has.2)
 
 -- the dimension of an array has a member
-has-members : (keys : List Key) → AllByRecursion IsArrayDim keys → HasMembers keys
+pub has-members : (keys : List Key) → AllByRecursion IsArrayDim keys → HasMembers keys
 unfolding value_of
 has-members [] all e = absurd cc
 has-members (key ∷ keys) all e = first key all.0 (has-members keys all.1) e

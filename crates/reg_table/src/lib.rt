@@ -11,6 +11,7 @@ mod row;
 mod table_rows;
 
 pub use listing::list_text;
+pub use register::register_row;
 pub use row::{Call, Calls, FieldDim, FieldRow, FieldRows, Row, RowPath, Table};
 pub use table_rows::table;
 

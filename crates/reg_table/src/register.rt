@@ -18,7 +18,7 @@ use std::alloc::Global;
 use svd_model::{Props, Register};
 
 /// The row of a register with this path and address, inside of which properties `outer` hold.
-pub(crate) fn register_row(
+pub fn register_row(
     alloc: Global,
     path: RowPath,
     address: u64,

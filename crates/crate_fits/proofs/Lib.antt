@@ -1,0 +1,7 @@
+pub mod Children
+pub mod Found
+pub mod Extents
+pub mod Ends
+pub mod Registers
+pub mod Blocks
+pub mod Crates

@@ -1,0 +1,9 @@
+pub mod Registers
+pub mod Children
+pub mod Modules
+pub mod Crates
+pub mod Worked
+pub mod Elements
+pub mod Parts
+pub mod Forms
+pub mod Laws

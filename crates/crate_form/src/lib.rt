@@ -1,0 +1,12 @@
+// The crate that is emitted for a checked description: as a function of the description's tree, and the code
+// that builds it.
+#![tactic(auto)]
+
+mod krate;
+mod laws;
+mod name;
+mod part;
+mod register;
+
+pub use krate::crate_form;
+pub use laws::{form_law, version_law};

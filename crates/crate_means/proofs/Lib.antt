@@ -1,0 +1,12 @@
+pub mod Named
+pub mod Seeking
+pub mod Walk
+pub mod Places
+pub mod Surfaces
+pub mod Fields
+pub mod RegisterActs
+pub mod RegisterCalls
+pub mod Registers
+pub mod Blocks
+pub mod Emitted
+pub mod Worked
