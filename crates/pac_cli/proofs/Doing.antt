@@ -1,6 +1,7 @@
 -- From what a stage leaves to what is done for a command.
-use Rattle.std.proofs.Common.{ℕ, ◌≡◌, ◌++◌, List, refl, sym, ap, subst, inl, inr}
+use Rattle.std.proofs.Common.{ℕ, ◌≡◌, ◌++◌, Option, Some, None, List, true, Result, Ok, Err, IfOk, refl, sym, ap, ◌∙◌, subst, inl, inr}
 use Rattle.std.specs.Io.KnownBytes.{Appends}
+use Rattle.std.specs.Result.{result_err}
 use Rattle.pac_io.specs.Writing.{AppendsPrefix, FaultCause}
 use Rattle.pac_io.specs.declared.fault.SinkFault.{SinkFault}
 use Rattle.pac_io.specs.declared.fault.SinkFault.TheVariants as sink
@@ -13,10 +14,23 @@ use Rattle.pac_fault.specs.Classes.{Class, no_memory, bad_words, bad_read, bad_w
 use Rattle.pac_fault.specs.Layers.{of_writing}
 use Rattle.pac_fault.specs.declared.fault.PacFault.{PacFault}
 use Rattle.pac_fault.specs.declared.fault.PacFault.TheVariants.{Memory}
-use Rattle.pac_cli.specs.Answers.{Plan, output_of, prints, Answer, refused, does, unresolved, AnswersSource, listed}
+use Rattle.pac_cli.specs.Answers.{Plan, output_of, prints, Answer, refused, does, unresolved, AnswersSource, generated, listed}
 use Rattle.pac_cli.specs.Resolving.{Unresolved, Resolution, stopped, resolved, SourceBytes, ComeTo}
 use Rattle.pac_cli.specs.Stages.{ResolvesNot, DoesNot}
 use Rattle.pac_cli.specs.Worlds.{Paper}
+use Rattle.crate_form.proofs.Forming.{one_has_form}
+use Rattle.crate_form.specs.Forms.{HasForm}
+use Rattle.frag_emit.specs.Standing.{StandsFor}
+use Rattle.frag_tree.proofs.CrateProductions.{one_crate}
+use Rattle.frag_tree.proofs.Fine.{printed_words}
+use Rattle.frag_tree.specs.Crates.{printed}
+use Rattle.frag_tree.specs.Trees.{CrateTree}
+use Rattle.frag_tree.specs.Validity.{valid_crate}
+use Rattle.pac_cli.specs.Headline.{IsTextFor, WordsHaveText, WritesText, WritesTextFor}
+use Rattle.pac_cli.specs.Inputs.{files_of}
+use Rattle.pac_inputs.specs.Gathering.{FileMap, Gathered, inputs_are}
+use Rattle.pac_words.specs.Commands.{command_of}
+use Rattle.pac_words.specs.declared.command.Command.{Command}
 
 -- memory was wanting before anything was written
 pub lacks_memory : (decides : Answer → Type 0) (now : Paper) (fault : PacFault) → fault ≡ Memory → DoesNot (class_of fault) decides now now fault
@@ -63,3 +77,42 @@ lists_stopped why = refl
 pub lists_rows : (source : SourceBytes) (rows : List (Row Step Key)) → ComeTo source (resolved rows) → AnswersSource listed source (does (prints (listing (table_of rows))))
 unfolding listed
 lists_rows source rows comes = record { resolution = resolved rows; comes = comes; answered = refl }
+
+-- a crate text
+
+pub generates_stopped : (why : Unresolved) → generated (stopped why) ≡ refused (unresolved why)
+unfolding generated
+generates_stopped why = refl
+
+pub generates_rows : (source : SourceBytes) (rows : List (Row Step Key)) (krate : CrateTree) → ComeTo source (resolved rows) → HasForm rows krate
+    → AnswersSource generated source (does (prints (printed krate)))
+unfolding generated
+generates_rows source rows krate comes form = record { resolution = resolved rows; comes = comes; answered = ap (λ (k : CrateTree). does (prints (printed k))) (one_has_form rows krate form) }
+
+pub writes_text : (source : SourceBytes) (rows : List (Row Step Key)) (krate : CrateTree) (old new : Option (List ℕ)) → ComeTo source (resolved rows) → valid_crate krate ≡ true
+    → HasForm rows krate → StandsFor rows krate → Appends old new (printed krate) → WritesTextFor source old new
+writes_text source rows krate old new comes valid form stands grown = record {
+  bytes = printed krate;
+  text = record {
+    rows = rows;
+    comes = comes;
+    krate = krate;
+    valid = valid;
+    printed_as = refl;
+    parses = refl;
+    only = λ other is parses. one_crate other krate is valid (sym (printed_words other is) ∙ (sym parses ∙ printed_words krate valid));
+    form = form;
+    stands = stands;
+  };
+  appended = grown;
+}
+
+pub has_text : (words : List (List ℕ)) (command : Command) (told : Option FileMap) (inputs : List (List ℕ)) (old new : Option (List ℕ)) → command_of words ≡ Some command
+    → Gathered told (files_of command) (inputs_are inputs) → WritesText command inputs old new → WordsHaveText (command_of words) told old new
+has_text words command told inputs old new asks gathered writes =
+    subst (λ (asked : Option Command). WordsHaveText asked told old new) (sym asks) (record { inputs = inputs; gathered = gathered; writes = writes })
+
+-- without a fault there was an answer
+pub where_none : {T E P : Type 0} (result : Result T E) → result_err result ≡ None → IfOk result (λ _. P) → P
+where_none (Ok value) none holds = holds
+where_none (Err error) none holds = absurd (cc none)

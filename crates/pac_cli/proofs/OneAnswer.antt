@@ -4,11 +4,11 @@ use Rattle.pac_io.specs.Rose.{Rose}
 use Rattle.svd_reader.specs.Described.{Answer as Reading, HasAnswer}
 use Rattle.pac_words.specs.Commands.{command_of}
 use Rattle.pac_words.specs.declared.command.Command.{Command}
-use Rattle.pac_words.specs.declared.command.Command.TheVariants.{Listing}
+use Rattle.pac_words.specs.declared.command.Command.TheVariants.{Generating, Listing}
 use Rattle.pac_fault.specs.Classes.{Class, no_memory, bad_words, bad_read, bad_write, long_file, bad_input, class_of}
 use Rattle.pac_fault.specs.declared.fault.PacFault.{PacFault}
 use Rattle.pac_fault.specs.declared.fault.PacFault.TheVariants.{Memory}
-use Rattle.pac_cli.specs.Answers.{Cause, Plan, Answer, refused, does, listed, Decides, DecidesOn, DecidesSource, AnswersAsked, AnswersCommand, IsAnswer}
+use Rattle.pac_cli.specs.Answers.{Cause, Plan, Answer, refused, does, generated, listed, Decides, DecidesOn, DecidesSource, AnswersAsked, AnswersCommand, IsAnswer}
 use Rattle.pac_inputs.specs.Gathering.{FileMap, Gathering, inputs_are, is_too_long, Gathered, gathered_from}
 use Rattle.pac_inputs.specs.declared.gathering.Wanted.{Wanted}
 use Rattle.pac_cli.specs.Inputs.{files_of}
@@ -32,6 +32,7 @@ one_for_source read made (svd ∷ next ∷ inputs) one other a b = absurd a
 -- a command and its inputs decide one answer at most
 pub one_decision_lem : OneReading → (command : Command) (inputs : List (List ℕ)) (one other : Answer) → Decides command inputs one → Decides command inputs other → one ≡ other
 one_decision_lem read (Listing source) inputs one other a b = one_for_source read listed inputs one other a b
+one_decision_lem read (Generating source) inputs one other a b = one_for_source read generated inputs one other a b
 
 one_on : OneReading → (command : Command) (gathering : Gathering) (one other : Answer) → DecidesOn command gathering one → DecidesOn command gathering other → one ≡ other
 one_on read command (inputs_are inputs) one other a b = one_decision_lem read command inputs one other a b

@@ -6,10 +6,12 @@ use Rattle.reg_table.specs.Listing.{listing}
 use Rattle.reg_table.specs.Registers.{table_of}
 use Rattle.pac_words.specs.Commands.{command_of}
 use Rattle.pac_words.specs.declared.command.Command.{Command}
-use Rattle.pac_words.specs.declared.command.Command.TheVariants.{Listing}
+use Rattle.pac_words.specs.declared.command.Command.TheVariants.{Generating, Listing}
 use Rattle.pac_inputs.specs.Gathering.{FileMap, Gathering, inputs_are, is_too_long, Gathered}
 use Rattle.pac_cli.specs.Inputs.{files_of}
 use Rattle.pac_cli.specs.Resolving.{Unresolved, Resolution, stopped, resolved, SourceBytes, ComeTo}
+use Rattle.crate_form.specs.Crates.{emitted}
+use Rattle.frag_tree.specs.Crates.{printed}
 
 -- why a command isn't done
 pub data Cause : Type 0 where
@@ -42,6 +44,11 @@ unfoldable pub listed : Resolution → Answer
 listed (stopped why) = refused (unresolved why)
 listed (resolved rows) = does (prints (listing (table_of rows)))
 
+-- what generating the crate text of a description answers, by what that comes to
+unfoldable pub generated : Resolution → Answer
+generated (stopped why) = refused (unresolved why)
+generated (resolved rows) = does (prints (printed (emitted rows)))
+
 -- the answer that is made of what the files of a description come to
 pub record AnswersSource (made : Resolution → Answer) (source : SourceBytes) (answer : Answer) : Type 0 where
   pub resolution : Resolution
@@ -56,6 +63,7 @@ DecidesSource made _ answer = ⊥
 -- the answer to a command with these inputs
 abbrev pub Decides : Command → List (List ℕ) → Answer → Type 0
 Decides (Listing source) inputs answer = DecidesSource listed inputs answer
+Decides (Generating source) inputs answer = DecidesSource generated inputs answer
 
 -- the answer to a command by what reading its files came to
 abbrev pub DecidesOn : Command → Gathering → Answer → Type 0

@@ -1,6 +1,7 @@
 pub mod Resolving
 pub mod Inputs
 pub mod Answers
+pub mod Headline
 pub mod Showing
 pub mod Worlds
 pub mod Standing

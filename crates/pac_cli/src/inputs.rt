@@ -14,7 +14,7 @@ pub(crate) fn files_of(alloc: Global, command: &Command) -> Result<Vec<Wanted>, 
     ensures { IfOk result (λ files. files.items ≡ files_of command.now) }
 {
     match command {
-        Command::Listing { source } => source_files(alloc, source),
+        Command::Listing { source } | Command::Generating { source } => source_files(alloc, source),
     }
 }
 

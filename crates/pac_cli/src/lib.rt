@@ -2,6 +2,7 @@
 // one line that tells of a fault.
 #![tactic(auto)]
 
+mod generating;
 mod inputs;
 mod laws;
 mod listing;

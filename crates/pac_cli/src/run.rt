@@ -1,5 +1,7 @@
 ghost use Rattle.std.specs.Result.{result_err};
-ghost use Rattle.std.specs.Prelude.{◌≡◌};
+ghost use Rattle.std.specs.Prelude.{◌≡◌, IfOk, None};
+ghost use Rattle.pac_cli.specs.Headline.{WordsHaveText};
+ghost use Rattle.pac_words.specs.Commands.{command_of};
 ghost use Rattle.pac_cli.specs.Standing.{Stands, IsComplete};
 ghost use Rattle.pac_cli.specs.Stages.{AsksFor};
 ghost use Rattle.pac_cli.specs.Telling.{Tells};
@@ -39,6 +41,8 @@ pub fn run_pac<F: Files, S: Sink, E: Sink>(
         (world (shelf (F.told files.old) (F.asked files.old) (F.faults files.old)) (paper (S.written out.old) (S.faults out.old)))
         (world (shelf (F.told files.new) (F.asked files.new) (F.faults files.new)) (paper (S.written out.new) (S.faults out.new)))
         result.fault }
+    // The text that `generate` writes stands for the description.
+    ensures headline { result.fault ≡ None → WordsHaveText (command_of words.now) (F.told files.old) (S.written out.old) (S.written out.new) }
     ensures status { result.status ≡ status_of result.fault }
     ensures told { Tells result.fault result.told (paper (E.written err.old) (E.faults err.old)) (paper (E.written err.new) (E.faults err.new)) }
 {
@@ -58,10 +62,11 @@ fn answer<F: Files, S: Sink>(
     files: &mut F,
     out: &mut S,
 ) -> Result<(), PacFault>
-    ensures { Stands words.now
+    ensures stands { Stands words.now
         (world (shelf (F.told files.old) (F.asked files.old) (F.faults files.old)) (paper (S.written out.old) (S.faults out.old)))
         (world (shelf (F.told files.new) (F.asked files.new) (F.faults files.new)) (paper (S.written out.new) (S.faults out.new)))
         (result_err result) }
+    ensures headline { IfOk result (λ _. WordsHaveText (command_of words.now) (F.told files.old) (S.written out.old) (S.written out.new)) }
 {
     let command = asked_for(alloc, words)?;
     let wanted = files_of(alloc, &command)?;

@@ -108,9 +108,10 @@ mapped f None some = absurd (cc some)
 mapped f (Some x) some = refl
 
 each_tells : Each Tells (built table).subs
-each_tells =
-    ((λ words none. mapped _ _ (mapped _ _ (leaf_value _ (codes "svd") words refl refl refl none))),
-    ((λ words none. mapped _ _ (mapped _ _ (leaf_value _ (codes "svd") words refl refl refl none))), tt))
+each_tells = (
+  (λ words none. mapped _ _ (mapped _ _ (leaf_value _ (codes "svd") words refl refl refl none))),
+  ((λ words none. mapped _ _ (mapped _ _ (leaf_value _ (codes "svd") words refl refl refl none))), tt),
+)
 
 by_stop : (stop : Option (Text × List Text)) → is_some (entered (built table) stop) ≡ true → entered_fault (built table) stop ≡ []
     → IsSome (chosen (entered (built table) stop))
