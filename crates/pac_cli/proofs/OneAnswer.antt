@@ -1,100 +1,133 @@
 -- The words and the files decide one answer at most, so the one that comes is that one.
-use Rattle.std.proofs.Common.{ℕ, ◌≡◌, ◌⊎◌, List, Option, Some, None, IfSome, refl, sym, ap, ◌∙◌, subst, inl, inr, arith}
+use Rattle.std.proofs.Common.{ℕ, ◌≡◌, ◌⊎◌, List, [], ◌∷◌, Option, Some, None, IfSome, refl, sym, ap, ◌∙◌, subst, inl, inr}
 use Rattle.pac_io.specs.Rose.{Rose}
 use Rattle.svd_reader.specs.Described.{Answer as Reading, HasAnswer}
-use Rattle.pac_cli.specs.Answers.{Answer, refused, prints, FileMap, IsAnswer, AnswersCommand, AnswersFile, AnswersListing, listed}
-use Rattle.pac_cli.specs.Resolving.{Cause, no_command, Resolution, ComeTo, resolution_of}
+use Rattle.pac_words.specs.Commands.{command_of}
+use Rattle.pac_words.specs.declared.command.Command.{Command}
+use Rattle.pac_words.specs.declared.command.Command.TheVariants.{Generating, Listing}
+use Rattle.pac_fault.specs.Classes.{Class, no_memory, bad_words, bad_read, bad_write, long_file, bad_input, class_of}
+use Rattle.pac_fault.specs.declared.fault.PacFault.{PacFault}
+use Rattle.pac_fault.specs.declared.fault.PacFault.TheVariants.{Memory}
+use Rattle.pac_cli.specs.Answers.{Cause, Plan, Answer, refused, does, generated, listed, Decides, DecidesOn, DecidesSource, AnswersAsked, AnswersCommand, IsAnswer}
+use Rattle.pac_inputs.specs.Gathering.{FileMap, Gathering, inputs_are, is_too_long, Gathered, gathered_from}
+use Rattle.pac_inputs.specs.declared.gathering.Wanted.{Wanted}
+use Rattle.pac_cli.specs.Inputs.{files_of}
+use Rattle.pac_cli.specs.Resolving.{Resolution, SourceBytes, ComeTo, resolution_of}
 use Rattle.pac_cli.specs.Showing.{Shows}
-use Rattle.pac_cli.specs.Causes.{World, Stands, Comes, IsComplete}
-use Rattle.pac_cli.specs.Commands.{command_of}
-use Rattle.pac_cli.specs.declared.command.Command.{Command}
-use Rattle.pac_cli.specs.declared.command.Command.TheVariants.{Listing}
-use Rattle.pac_cli.specs.declared.fault.PacFault.{PacFault}
-use Rattle.pac_cli.specs.declared.fault.PacFault.TheVariants.{Memory, Words, Read, Write, Svd, Unbuilt, Dim, Check, Limit}
+use Rattle.pac_cli.specs.Standing.{StandsIn, Stands, Refuses, Comes, IsSpared, IsComplete}
+use Rattle.pac_cli.specs.Worlds.{World}
 
 -- no bytes of a description have two answers
 abbrev pub OneReading : Type 0
 OneReading = (bytes : List ℕ) (one other : Reading) → HasAnswer bytes one → HasAnswer bytes other → one ≡ other
 
-same_resolution : OneReading → (bytes : List ℕ) (one other : Resolution) → ComeTo bytes one → ComeTo bytes other → one ≡ other
-same_resolution read bytes one other a b = a.resolved ∙ ap resolution_of (read bytes a.reading b.reading a.read b.read) ∙ sym b.resolved
+same_resolution : OneReading → (source : SourceBytes) (one other : Resolution) → ComeTo source one → ComeTo source other → one ≡ other
+same_resolution read source one other a b = a.comes ∙ ap resolution_of (read source.svd a.reading b.reading a.read b.read) ∙ sym b.comes
 
-one_for_bytes : OneReading → (svd bytes : List ℕ) (one other : Answer) → AnswersListing svd bytes one → AnswersListing svd bytes other → one ≡ other
-one_for_bytes read svd bytes one other (inl a) (inl b) = a.answered ∙ sym b.answered
-one_for_bytes read svd bytes one other (inl a) (inr b) = let l = a.beyond in let w = b.within in absurd (omega arith)
-one_for_bytes read svd bytes one other (inr a) (inl b) = let w = a.within in let l = b.beyond in absurd (omega arith)
-one_for_bytes read svd bytes one other (inr a) (inr b) = a.answered ∙ ap listed (same_resolution read bytes a.resolution b.resolution a.comes b.comes) ∙ sym b.answered
+one_for_source : OneReading → (made : Resolution → Answer) (inputs : List (List ℕ)) (one other : Answer) → DecidesSource made inputs one → DecidesSource made inputs other → one ≡ other
+one_for_source read made [] one other a b = absurd a
+one_for_source read made (svd ∷ []) one other a b = a.answered ∙ ap made (same_resolution read (record { svd = svd }) a.resolution b.resolution a.comes b.comes) ∙ sym b.answered
+one_for_source read made (svd ∷ next ∷ inputs) one other a b = absurd a
 
-one_for_file : OneReading → (svd : List ℕ) (found : Option (List ℕ)) (one other : Answer) → AnswersFile svd found one → AnswersFile svd found other → one ≡ other
-one_for_file read svd None one other a b = absurd a
-one_for_file read svd (Some bytes) one other a b = one_for_bytes read svd bytes one other a b
+-- a command and its inputs decide one answer at most
+pub one_decision_lem : OneReading → (command : Command) (inputs : List (List ℕ)) (one other : Answer) → Decides command inputs one → Decides command inputs other → one ≡ other
+one_decision_lem read (Listing source) inputs one other a b = one_for_source read listed inputs one other a b
+one_decision_lem read (Generating source) inputs one other a b = one_for_source read generated inputs one other a b
 
-one_for_command : OneReading → (command : Option Command) (files : FileMap) (one other : Answer) → AnswersCommand command files one → AnswersCommand command files other → one ≡ other
-one_for_command read None files one other a b = a ∙ sym b
-one_for_command read (Some (Listing svd)) files one other a b = one_for_file read svd (files svd) one other a b
+one_on : OneReading → (command : Command) (gathering : Gathering) (one other : Answer) → DecidesOn command gathering one → DecidesOn command gathering other → one ≡ other
+one_on read command (inputs_are inputs) one other a b = one_decision_lem read command inputs one other a b
+one_on read command (is_too_long file) one other a b = a ∙ sym b
+
+-- what told files are to a command
+told_as : (files : FileMap) (wanted : List Wanted) (gathering : Gathering) → Gathered (Some files) wanted gathering → gathered_from files wanted ≡ Some gathering
+told_as files wanted (inputs_are inputs) h = h.1
+told_as files wanted (is_too_long file) h = h
+
+same_gathering : (found : Option Gathering) (one other : Gathering) → found ≡ Some one → found ≡ Some other → one ≡ other
+same_gathering found one other a b = let e : Some one ≡ Some other = sym a ∙ b in cc
+
+one_for_command : OneReading → (command : Command) (files : FileMap) (one other : Answer) → AnswersCommand command (Some files) one → AnswersCommand command (Some files) other → one ≡ other
+one_for_command read command files one other a b =
+    one_on read command b.gathering one other
+    (subst (λ (gathering : Gathering). DecidesOn command gathering one)
+    (same_gathering (gathered_from files (files_of command)) a.gathering b.gathering (told_as files (files_of command) a.gathering a.gathered)
+    (told_as files (files_of command) b.gathering b.gathered)) a.decided)
+    b.decided
+
+one_for : OneReading → (asked : Option Command) (files : FileMap) (one other : Answer) → AnswersAsked asked (Some files) one → AnswersAsked asked (Some files) other → one ≡ other
+one_for read None files one other a b = a ∙ sym b
+one_for read (Some command) files one other a b = one_for_command read command files one other a b
 
 -- the words and the files decide one answer at most
-pub one_answer_lem : OneReading → (words : List (List ℕ)) (files : FileMap) (one other : Answer) → IsAnswer words files one → IsAnswer words files other → one ≡ other
-one_answer_lem read words files one other a b = one_for_command read (command_of words) files one other a b
+pub one_answer_lem : OneReading → (words : List (List ℕ)) (files : FileMap) (one other : Answer) → IsAnswer words (Some files) one → IsAnswer words (Some files) other → one ≡ other
+one_answer_lem read words files one other a b = one_for read (command_of words) files one other a b
 
-abbrev Spared : World → World → Type 0
-Spared old new = (Rose old.read_faults new.read_faults → ⊥) × (Rose old.write_faults new.write_faults → ⊥)
+-- ---- completeness
 
-memory_comes : (answer : Answer) → Comes answer (Some Memory)
-memory_comes (refused cause) = inr refl
-memory_comes (prints output) = inr refl
-
-comes_refused : (answer : Answer) (cause : Cause) (fault : PacFault) → answer ≡ refused cause → Shows fault cause → Comes answer (Some fault)
-comes_refused answer cause fault is shows = subst (λ (a : Answer). Comes a (Some fault)) (sym is) (inl shows)
-
-comes_printed : (answer : Answer) (output : List ℕ) → answer ≡ prints output → Comes answer None
-comes_printed answer output is = subst (λ (a : Answer). Comes a None) (sym is) (inl refl)
-
--- words that ask for nothing have the one answer
-words_answer : (words : List (List ℕ)) (files : FileMap) (answer : Answer) → command_of words ≡ None → IsAnswer words files answer → answer ≡ refused no_command
-words_answer words files answer none a = subst (λ (c : Option Command). AnswersCommand c files answer) none a
-
+-- what an answer that stands has for the answer to told files
 abbrev DecidedAt : List (List ℕ) → World → World → Option PacFault → Option FileMap → Type 0
-DecidedAt words old new found told = IfSome told (λ files. (answer : Answer) → IsAnswer words files answer → (Rose old.read_faults new.read_faults → ⊥) → (Rose old.write_faults new.write_faults → ⊥) → Comes answer found)
-
-told_answer : {A : Type 0} (P Q : A → Type 0) (told : Option A) → IfSome told P → ((a : A) → P a → Q a) → IfSome told Q
-told_answer P Q None h step = tt
-told_answer P Q (Some a) h step = step a h
-
-told_any : {A : Type 0} (Q : A → Type 0) (told : Option A) → ((a : A) → Q a) → IfSome told Q
-told_any Q None step = tt
-told_any Q (Some a) step = step a
-
-decided : OneReading → (words : List (List ℕ)) (old new : World) (found : Option PacFault) → Stands words old new found → DecidedAt words old new found old.files
-decided read words old new None h = told_answer _ _ old.files h.output (λ files printed answer is no_read no_write. comes_printed answer printed.0 (one_answer_lem read words files answer (prints printed.0) is printed.1))
-decided read words old new (Some Memory) h = told_any _ old.files (λ files answer is no_read no_write. memory_comes answer)
-decided read words old new (Some (Words fault)) h = told_any _ old.files (λ files answer is no_read no_write. comes_refused answer no_command (Words fault) (words_answer words files answer h.no_command is) (refl, h.told_as))
-decided read words old new (Some (Read name)) h = told_any _ old.files (λ files answer is no_read no_write. absurd (no_read h.rose))
-decided read words old new (Some Write) h = told_any _ old.files (λ files answer is no_read no_write. absurd (no_write h.rose))
-decided read words old new (Some (Svd fault)) h = told_answer _ _ old.files h.decided (λ files known answer is no_read no_write. comes_refused answer known.0 (Svd fault) (one_answer_lem read words files answer (refused known.0) is known.1) known.2)
-decided read words old new (Some (Unbuilt path)) h = told_answer _ _ old.files h.decided (λ files known answer is no_read no_write. comes_refused answer known.0 (Unbuilt path) (one_answer_lem read words files answer (refused known.0) is known.1) known.2)
-decided read words old new (Some (Dim fault)) h = told_answer _ _ old.files h.decided (λ files known answer is no_read no_write. comes_refused answer known.0 (Dim fault) (one_answer_lem read words files answer (refused known.0) is known.1) known.2)
-decided read words old new (Some (Check fault)) h = told_answer _ _ old.files h.decided (λ files known answer is no_read no_write. comes_refused answer known.0 (Check fault) (one_answer_lem read words files answer (refused known.0) is known.1) known.2)
-decided read words old new (Some (Limit fault)) h = told_answer _ _ old.files h.decided (λ files known answer is no_read no_write. comes_refused answer known.0 (Limit fault) (one_answer_lem read words files answer (refused known.0) is known.1) known.2)
+DecidedAt words old new found told = IfSome told (λ files. (answer : Answer) → IsAnswer words (Some files) answer → IsSpared old new → Comes answer found)
 
 abbrev AcceptedAt : List (List ℕ) → World → World → Option PacFault → Option FileMap → Type 0
-AcceptedAt words old new found told = IfSome told (λ files. ((cause : Cause) → IsAnswer words files (refused cause) → ⊥) → (Rose old.read_faults new.read_faults → ⊥) → (Rose old.write_faults new.write_faults → ⊥) → (found ≡ None) ⊎ (found ≡ Some Memory))
+AcceptedAt words old new found told = IfSome told (λ files. ((cause : Cause) → IsAnswer words (Some files) (refused cause) → ⊥) → IsSpared old new → (found ≡ None) ⊎ (found ≡ Some Memory))
 
-clap_answer : (words : List (List ℕ)) (files : FileMap) → command_of words ≡ None → IsAnswer words files (refused no_command)
-clap_answer words files none = subst (λ (c : Option Command). AnswersCommand c files (refused no_command)) (sym none) refl
+-- want of memory comes in the place of any answer
+memory_comes : (answer : Answer) (found : Option PacFault) → found ≡ Some Memory → Comes answer found
+memory_comes (refused cause) found is = inr is
+memory_comes (does plan) found is = inr is
 
-accepted : (words : List (List ℕ)) (old new : World) (found : Option PacFault) → Stands words old new found → AcceptedAt words old new found old.files
-accepted words old new None h = told_any _ old.files (λ files free no_read no_write. inl refl)
-accepted words old new (Some Memory) h = told_any _ old.files (λ files free no_read no_write. inr refl)
-accepted words old new (Some (Words fault)) h = told_any _ old.files (λ files free no_read no_write. absurd (free no_command (clap_answer words files h.no_command)))
-accepted words old new (Some (Read name)) h = told_any _ old.files (λ files free no_read no_write. absurd (no_read h.rose))
-accepted words old new (Some Write) h = told_any _ old.files (λ files free no_read no_write. absurd (no_write h.rose))
-accepted words old new (Some (Svd fault)) h = told_answer _ _ old.files h.decided (λ files known free no_read no_write. absurd (free known.0 known.1))
-accepted words old new (Some (Unbuilt path)) h = told_answer _ _ old.files h.decided (λ files known free no_read no_write. absurd (free known.0 known.1))
-accepted words old new (Some (Dim fault)) h = told_answer _ _ old.files h.decided (λ files known free no_read no_write. absurd (free known.0 known.1))
-accepted words old new (Some (Check fault)) h = told_answer _ _ old.files h.decided (λ files known free no_read no_write. absurd (free known.0 known.1))
-accepted words old new (Some (Limit fault)) h = told_answer _ _ old.files h.decided (λ files known free no_read no_write. absurd (free known.0 known.1))
+done_decides : OneReading → (words : List (List ℕ)) (old new : World) (plan : Plan) (told : Option FileMap) → IsAnswer words told (does plan) → DecidedAt words old new None told
+done_decides read words old new plan None h = tt
+done_decides read words old new plan (Some files) h = λ answer is spared. subst (λ (a : Answer). Comes a None) (one_answer_lem read words files (does plan) answer h is) (inl refl)
+
+done_accepts : (words : List (List ℕ)) (old new : World) (told : Option FileMap) → AcceptedAt words old new None told
+done_accepts words old new None = tt
+done_accepts words old new (Some files) = λ free spared. inl refl
+
+refusal_decides : OneReading → (words : List (List ℕ)) (old new : World) (fault : PacFault) (cause : Cause) (told : Option FileMap) → IsAnswer words told (refused cause) → Shows cause fault → DecidedAt words old new (Some fault) told
+refusal_decides read words old new fault cause None h shown = tt
+refusal_decides read words old new fault cause (Some files) h shown =
+    λ answer is spared. subst (λ (a : Answer). Comes a (Some fault)) (one_answer_lem read words files (refused cause) answer h is) (inl shown)
+
+refusal_accepts : (words : List (List ℕ)) (old new : World) (fault : PacFault) (cause : Cause) (told : Option FileMap) → IsAnswer words told (refused cause) → AcceptedAt words old new (Some fault) told
+refusal_accepts words old new fault cause None h = tt
+refusal_accepts words old new fault cause (Some files) h = λ free spared. absurd (free cause h)
+
+memory_decides : (words : List (List ℕ)) (old new : World) (fault : PacFault) (told : Option FileMap) → fault ≡ Memory → DecidedAt words old new (Some fault) told
+memory_decides words old new fault None is = tt
+memory_decides words old new fault (Some files) is = λ answer has spared. memory_comes answer (Some fault) (ap Some is)
+
+memory_accepts : (words : List (List ℕ)) (old new : World) (fault : PacFault) (told : Option FileMap) → fault ≡ Memory → AcceptedAt words old new (Some fault) told
+memory_accepts words old new fault None is = tt
+memory_accepts words old new fault (Some files) is = λ free spared. inr (ap Some is)
+
+-- where a count of faults rose, nothing is decided
+rose_decides : (words : List (List ℕ)) (old new : World) (found : Option PacFault) (told : Option FileMap) → (IsSpared old new → ⊥) → DecidedAt words old new found told
+rose_decides words old new found None rose = tt
+rose_decides words old new found (Some files) rose = λ answer is spared. absurd (rose spared)
+
+rose_accepts : (words : List (List ℕ)) (old new : World) (found : Option PacFault) (told : Option FileMap) → (IsSpared old new → ⊥) → AcceptedAt words old new found told
+rose_accepts words old new found None rose = tt
+rose_accepts words old new found (Some files) rose = λ free spared. absurd (rose spared)
+
+refusal_complete : OneReading → (words : List (List ℕ)) (old new : World) (fault : PacFault) → Refuses words old new fault → IsComplete words old new (Some fault)
+refusal_complete read words old new fault h = record {
+  decided = refusal_decides read words old new fault h.cause old.shelf.files h.answered h.shown;
+  accepted = refusal_accepts words old new fault h.cause old.shelf.files h.answered;
+}
+
+rose_complete : (words : List (List ℕ)) (old new : World) (fault : PacFault) → (IsSpared old new → ⊥) → IsComplete words old new (Some fault)
+rose_complete words old new fault rose = record { decided = rose_decides words old new (Some fault) old.shelf.files rose; accepted = rose_accepts words old new (Some fault) old.shelf.files rose }
+
+complete_in : OneReading → (class : Class) (words : List (List ℕ)) (old new : World) (fault : PacFault) → StandsIn class words old new fault → IsComplete words old new (Some fault)
+complete_in read no_memory words old new fault h = record { decided = memory_decides words old new fault old.shelf.files h.told_as; accepted = memory_accepts words old new fault old.shelf.files h.told_as }
+complete_in read bad_words words old new fault h = refusal_complete read words old new fault h.1
+complete_in read (bad_read name) words old new fault h = rose_complete words old new fault (λ spared. spared.reads h.rose)
+complete_in read bad_write words old new fault h = rose_complete words old new fault (λ spared. spared.writes h.rose)
+complete_in read (long_file name limit) words old new fault h = refusal_complete read words old new fault h.1
+complete_in read bad_input words old new fault h = refusal_complete read words old new fault h.1
 
 -- what stands is complete
 pub complete : OneReading → (words : List (List ℕ)) (old new : World) (found : Option PacFault) → Stands words old new found → IsComplete words old new found
-complete read words old new found h = record { decided = decided read words old new found h; accepted = accepted words old new found h }
+complete read words old new None h = record { decided = done_decides read words old new h.plan old.shelf.files h.answered; accepted = done_accepts words old new old.shelf.files }
+complete read words old new (Some fault) h = complete_in read (class_of fault) words old new fault h

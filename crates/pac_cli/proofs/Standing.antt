@@ -1,236 +1,154 @@
 -- From what each stage of a command leaves to what stands after the call.
-use Rattle.std.proofs.Common.{ℕ, ◌≡◌, ◌⊎◌, ◌<◌, List, [], ◌∷◌, ◌++◌, Option, Some, None, IfSome, IsSomeAnd, IsSome, Result, Ok, Err, length, true, false, refl, sym, ap, ◌∙◌, subst, inl, inr}
+use Rattle.std.proofs.Common.{ℕ, ◌≡◌, ◌⊎◌, List, [], ◌∷◌, ◌++◌, Option, Some, None, IfSome, Result, Ok, Err, refl, sym, ap, ◌∙◌, subst, inl, inr}
 use Rattle.std.proofs.lemmas.List.{append-nil}
 use Rattle.std.specs.Result.{result_err}
-use Rattle.reg_table.specs.Listing.{listing}
-use Rattle.reg_table.specs.Registers.{table_of}
-use Rattle.svd_model.specs.Keys.{Key}
-use Rattle.svd_model.specs.Steps.{Step}
-use Rattle.svd_rows.specs.Rows.{Row}
-use Rattle.pac_io.specs.Asking.{and_asked}
-use Rattle.pac_io.proofs.WrittenUpTo.{none_written}
-use Rattle.pac_cli.specs.Answers.{Answer, refused, prints, FileMap, IsAnswer, AnswersCommand, AnswersFile, AnswersListing, longest, listed}
-use Rattle.pac_cli.specs.Causes.{World, world, Asks, RunsOutOfMemory, RefusesInput, Stands, StandsFor}
-use Rattle.pac_cli.specs.Commands.{command_of, files_of, CommandsFault}
-use Rattle.pac_cli.specs.Resolving.{Cause, file_too_long, stopped, checked, ComeTo}
-use Rattle.pac_cli.specs.Showing.{Shows}
-use Rattle.pac_cli.specs.Stages.{Shelf, Paper, HasRead, ReadFault, LacksMemoryToRead, IsDecided, ResolveFault, WritesText, WriteFault}
-use Rattle.pac_cli.specs.declared.command.Command.{Command}
-use Rattle.pac_cli.specs.declared.command.Command.TheVariants.{Listing}
-use Rattle.pac_cli.specs.declared.fault.PacFault.{PacFault}
-use Rattle.pac_cli.specs.declared.fault.PacFault.TheVariants.{Memory, Words, Read, Write, Svd, Unbuilt, Dim, Check, Limit}
-use Rattle.pac_cli.specs.declared.fault.LimitFault.{LimitFault}
-use Rattle.pac_cli.specs.declared.fault.LimitFault.TheVariants.{FileTooLong}
+use Rattle.pac_words.specs.Commands.{command_of}
+use Rattle.pac_words.specs.declared.command.Command.{Command}
+use Rattle.pac_fault.specs.Classes.{Class, no_memory, bad_words, bad_read, bad_write, long_file, bad_input, class_of}
+use Rattle.pac_fault.specs.declared.fault.PacFault.{PacFault}
+use Rattle.pac_fault.specs.declared.fault.PacFault.TheVariants.{Memory}
+use Rattle.pac_cli.specs.Answers.{Cause, no_command, file_too_long, Answer, refused, does, Decides, DecidesOn, AnswersAsked, IsAnswer}
+use Rattle.pac_inputs.specs.Gathering.{FileMap, Gathering, inputs_are, is_too_long, Gathered}
+use Rattle.pac_inputs.specs.Reads.{GathersAll, GathersNot}
+use Rattle.pac_inputs.specs.Shelves.{Shelf, Asks, AsksSome, AsksUpTo}
+use Rattle.pac_inputs.specs.declared.gathering.Wanted.{Wanted}
+use Rattle.pac_cli.specs.Inputs.{files_of, wanted_by}
+use Rattle.pac_cli.specs.Standing.{wanted, WritesPart, RunsOutOfMemory, StandsIn, Stands}
+use Rattle.pac_cli.specs.Stages.{AsksNot, HasWrittenPart, DoesNot, Does}
+use Rattle.pac_cli.specs.Worlds.{Paper, World, world, WritesNothing}
 
-abbrev pub both : Shelf → Paper → World
-both shelf paper = world shelf.files shelf.asked shelf.faults paper.written paper.faults
+asks_none : (old : Option (List (List ℕ))) → IfSome old (λ before. old ≡ Some (before ++ []))
+asks_none None = tt
+asks_none (Some names) = ap Some (sym (append-nil names))
 
-asks_none : (old new : Option (List (List ℕ))) → new ≡ old → IfSome old (λ before. new ≡ Some (before ++ []))
-asks_none None new same = tt
-asks_none (Some names) new same = same ∙ ap Some (sym (append-nil names))
+pub asks_nothing : (now : Shelf) → Asks now now []
+asks_nothing now = record { same_files = refl; asked_for = asks_none now.asked }
 
-asks_one : (old new : Option (List (List ℕ))) (name : List ℕ) → new ≡ and_asked old name → IfSome old (λ before. new ≡ Some (before ++ name ∷ []))
-asks_one None new name asked = tt
-asks_one (Some names) new name asked = asked
+asks_no_file : (files : List Wanted) (now : Shelf) → AsksSome files now now
+asks_no_file files now = record { before = []; later = files; first = refl; asks = asks_nothing now }
 
--- what holds of a told value
-if_told : {A : Type 0} (P Q : A → Type 0) (told : Option A) → ((a : A) → P a → Q a) → IfSome told P → IfSome told Q
-if_told P Q None step h = tt
-if_told P Q (Some a) step h = step a h
+still : (now : Paper) → WritesNothing now now
+still now = record { same_text = refl; same_faults = refl }
 
--- the answer to the words is a refusal whose cause the fault shows
-abbrev Refuses : List (List ℕ) → PacFault → FileMap → Type 0
-Refuses words fault files = (cause : Cause) × IsAnswer words files (refused cause) × Shows fault cause
+-- the files of the words are those of their command
+the_files : (words : List (List ℕ)) (command : Command) → command_of words ≡ Some command → files_of command ≡ wanted words
+the_files words command taken = ap wanted_by (sym taken)
 
-too_long : (svd : List ℕ) (found : Option (List ℕ)) → IsSomeAnd found (λ bytes. longest < length bytes) → AnswersFile svd found (refused (file_too_long svd longest))
-too_long svd None beyond = absurd beyond
-too_long svd (Some bytes) beyond = inl (record { beyond = beyond; answered = refl })
-
--- the answer to the words that ask for a listing is that of the file
-file_answer : (words : List (List ℕ)) (svd : List ℕ) (files : FileMap) (answer : Answer) → command_of words ≡ Some (Listing svd) → AnswersFile svd (files svd) answer → IsAnswer words files answer
-file_answer words svd files answer taken h = subst (λ (c : Option Command). AnswersCommand c files answer) (sym taken) h
-
--- the answer that the bytes of the file decide
-bytes_answer : (words : List (List ℕ)) (svd bytes : List ℕ) (files : FileMap) (answer : Answer) → command_of words ≡ Some (Listing svd) → files svd ≡ Some bytes → AnswersListing svd bytes answer → IsAnswer words files answer
-bytes_answer words svd bytes files answer taken stands h = file_answer words svd files answer taken (subst (λ (f : Option (List ℕ)). AnswersFile svd f answer) (sym stands) h)
-
-no_memory : (svd : List ℕ) (old new : Shelf) (paper : Paper) (words : List (List ℕ)) → command_of words ≡ Some (Listing svd) → LacksMemoryToRead svd old new → (new.asked ≡ old.asked) ⊎ (new.asked ≡ and_asked old.asked svd) → RunsOutOfMemory words (both old paper) (both new paper)
-no_memory svd old new paper words taken h (inl same) = record {
-  command = Listing svd;
-  taken = taken;
-  names = [];
-  later = svd ∷ [];
-  first = refl;
-  asks = record { same_files = h.same_files; asked = asks_none old.asked new.asked same };
-  reads = h.count;
-  writes = refl;
-  output = inl refl;
-}
-no_memory svd old new paper words taken h (inr asked) = record {
-  command = Listing svd;
-  taken = taken;
-  names = svd ∷ [];
-  later = [];
-  first = refl;
-  asks = record { same_files = h.same_files; asked = asks_one old.asked new.asked svd asked };
-  reads = h.count;
-  writes = refl;
-  output = inl refl;
-}
-
-long_shown : (svd : List ℕ) (fault : LimitFault) → fault ≡ FileTooLong svd longest → Shows (Limit fault) (file_too_long svd longest)
-long_shown svd fault told_as = subst (λ (f : LimitFault). Shows (Limit f) (file_too_long svd longest)) (sym told_as) refl
-
--- the file wasn't read
-pub not_read : (svd : List ℕ) (old new : Shelf) (paper : Paper) (fault : PacFault) → ReadFault svd old new fault → StandsFor (Listing svd) (both old paper) (both new paper) (Some fault)
-not_read svd old new paper Memory h = λ words taken. no_memory svd old new paper words taken h h.asked
-not_read svd old new paper (Words fault) h = absurd h
-not_read svd old new paper (Read name) h = λ words taken. record {
-  command = Listing svd;
-  taken = taken;
-  before = [];
-  later = [];
-  first = ap (λ (n : List ℕ). n ∷ []) h.told_as;
-  asks = record { same_files = h.same_files; asked = asks_one old.asked new.asked name (h.asked ∙ ap (and_asked old.asked) (sym h.told_as)) };
-  rose = h.rose;
-  writes = record { same_text = refl; same_faults = refl };
-}
-not_read svd old new paper Write h = absurd h
-not_read svd old new paper (Svd fault) h = absurd h
-not_read svd old new paper (Unbuilt path) h = absurd h
-not_read svd old new paper (Dim fault) h = absurd h
-not_read svd old new paper (Check fault) h = absurd h
-not_read svd old new paper (Limit fault) h = λ words taken. record {
-  command = Listing svd;
-  taken = taken;
-  asks = record { same_files = h.same_files; asked = asks_one old.asked new.asked svd h.asked };
-  reads = h.count;
-  writes = record { same_text = refl; same_faults = refl };
-  decided = if_told (λ files. IsSomeAnd (files svd) (λ bytes. longest < length bytes)) (Refuses words (Limit fault)) old.files (λ files beyond. (file_too_long svd longest, file_answer words svd files (refused (file_too_long svd longest)) taken (too_long svd (files svd) beyond), long_shown svd fault h.told_as)) h.beyond;
-}
-
-asks_file : (svd bytes : List ℕ) (old new : Shelf) (paper later : Paper) → HasRead svd bytes old new → Asks (both old paper) (both new later) (svd ∷ [])
-asks_file svd bytes old new paper later h = record { same_files = h.same_files; asked = asks_one old.asked new.asked svd h.asked }
-
--- the bytes come to nothing, for a cause that the fault shows
-comes_to_nothing : (words : List (List ℕ)) (svd bytes : List ℕ) (old new : Shelf) (fault : PacFault) → command_of words ≡ Some (Listing svd) → HasRead svd bytes old new → IsDecided bytes fault → IfSome old.files (Refuses words fault)
-unfolding listed
-comes_to_nothing words svd bytes old new fault taken r h =
-    if_told (λ files. files svd ≡ Some bytes) (Refuses words fault) old.files
-    (λ files stands. (h.0, bytes_answer words svd bytes files (refused h.0) taken stands (inr (record { within = r.within; resolution = stopped h.0; comes = h.1; answered = refl })), h.2))
-    r.stands
-
--- the bytes are refused
-refused_by : (svd bytes : List ℕ) (old new : Shelf) (paper : Paper) (fault : PacFault) (words : List (List ℕ)) → command_of words ≡ Some (Listing svd) → HasRead svd bytes old new → IsDecided bytes fault → RefusesInput words (both old paper) (both new paper) fault
-refused_by svd bytes old new paper fault words taken r h = record {
-  command = Listing svd;
-  taken = taken;
-  asks = asks_file svd bytes old new paper paper r;
-  reads = r.count;
-  writes = record { same_text = refl; same_faults = refl };
-  decided = comes_to_nothing words svd bytes old new fault taken r h;
-}
-
--- the bytes come to no rows
-pub not_resolved : (svd bytes : List ℕ) (old new : Shelf) (paper : Paper) (fault : PacFault) → HasRead svd bytes old new → ResolveFault bytes fault → StandsFor (Listing svd) (both old paper) (both new paper) (Some fault)
-not_resolved svd bytes old new paper Memory r h = λ words taken. record {
-  command = Listing svd;
-  taken = taken;
-  names = svd ∷ [];
-  later = [];
-  first = refl;
-  asks = asks_file svd bytes old new paper paper r;
-  reads = r.count;
-  writes = refl;
-  output = inl refl;
-}
-not_resolved svd bytes old new paper (Words fault) r h = absurd h
-not_resolved svd bytes old new paper (Read name) r h = absurd h
-not_resolved svd bytes old new paper Write r h = absurd h
-not_resolved svd bytes old new paper (Svd fault) r h = λ words taken. refused_by svd bytes old new paper (Svd fault) words taken r h
-not_resolved svd bytes old new paper (Unbuilt path) r h = λ words taken. refused_by svd bytes old new paper (Unbuilt path) words taken r h
-not_resolved svd bytes old new paper (Dim fault) r h = λ words taken. refused_by svd bytes old new paper (Dim fault) words taken r h
-not_resolved svd bytes old new paper (Check fault) r h = λ words taken. refused_by svd bytes old new paper (Check fault) words taken r h
-not_resolved svd bytes old new paper (Limit fault) r h = λ words taken. refused_by svd bytes old new paper (Limit fault) words taken r h
-
--- the bytes are listed as the lines of their rows
-lists : (words : List (List ℕ)) (svd bytes : List ℕ) (rows : List (Row Step Key)) (old new : Shelf) (files : FileMap) → command_of words ≡ Some (Listing svd) → HasRead svd bytes old new → ComeTo bytes (checked rows) → files svd ≡ Some bytes → IsAnswer words files (prints (listing (table_of rows)))
-unfolding listed
-lists words svd bytes rows old new files taken r d stands = bytes_answer words svd bytes files (prints (listing (table_of rows))) taken stands (inr (record { within = r.within; resolution = checked rows; comes = d; answered = refl }))
-
--- the listing was written, or broke off
-pub written : {T : Type 0} (svd bytes : List ℕ) (rows : List (Row Step Key)) (old new : Shelf) (paper later : Paper) (result : Result T PacFault) → HasRead svd bytes old new → ComeTo bytes (checked rows) → WritesText (listing (table_of rows)) paper later result → StandsFor (Listing svd) (both old paper) (both new later) (result_err result)
-written svd bytes rows old new paper later (Ok value) r d h = λ words taken. record {
-  command = Listing svd;
-  taken = taken;
-  asks = asks_file svd bytes old new paper later r;
-  reads = r.count;
-  writes = h.count;
-  output = if_told (λ files. files svd ≡ Some bytes) _ old.files (λ files stands. (listing (table_of rows), lists words svd bytes rows old new files taken r d stands, h.text_written)) r.stands;
-}
-written svd bytes rows old new paper later (Err Memory) r d h = λ words taken. record {
-  command = Listing svd;
-  taken = taken;
-  names = svd ∷ [];
-  later = [];
-  first = refl;
-  asks = asks_file svd bytes old new paper later r;
-  reads = r.count;
-  writes = h.count;
-  output = inr (if_told (λ files. files svd ≡ Some bytes) _ old.files (λ files stands. (listing (table_of rows), lists words svd bytes rows old new files taken r d stands, h.part)) r.stands);
-}
-written svd bytes rows old new paper later (Err (Words fault)) r d h = absurd h
-written svd bytes rows old new paper later (Err (Read name)) r d h = absurd h
-written svd bytes rows old new paper later (Err Write) r d h = λ words taken. record {
-  command = Listing svd;
-  taken = taken;
-  asks = asks_file svd bytes old new paper later r;
-  reads = r.count;
-  rose = h.rose;
-  output = if_told (λ files. files svd ≡ Some bytes) _ old.files (λ files stands. (listing (table_of rows), lists words svd bytes rows old new files taken r d stands, h.part)) r.stands;
-}
-written svd bytes rows old new paper later (Err (Svd fault)) r d h = absurd h
-written svd bytes rows old new paper later (Err (Unbuilt path)) r d h = absurd h
-written svd bytes rows old new paper later (Err (Dim fault)) r d h = absurd h
-written svd bytes rows old new paper later (Err (Check fault)) r d h = absurd h
-written svd bytes rows old new paper later (Err (Limit fault)) r d h = absurd h
-
--- the command of the words, where there is one
-some_command : (words : List (List ℕ)) (found : Option Command) → command_of words ≡ found → IsSome found → (command : Command) × (command_of words ≡ Some command)
-some_command words None is some = let e : false ≡ true = some in cc
-some_command words (Some command) is some = (command, is)
-
-asks_nothing : (world : World) → Asks world world []
-asks_nothing world = record { same_files = refl; asked = asks_none world.asked world.asked refl }
+-- the answer to the words is that of their command
+the_answer : (words : List (List ℕ)) (command : Command) (told : Option FileMap) (answer : Answer) (gathering : Gathering) → command_of words ≡ Some command
+    → Gathered told (files_of command) gathering → DecidesOn command gathering answer → IsAnswer words told answer
+the_answer words command told answer gathering taken gathered decided =
+    subst (λ (asked : Option Command). AnswersAsked asked told answer) (sym taken) (record { gathering = gathering; gathered = gathered; decided = decided })
 
 -- the words were refused, or memory was wanting for them
-pub not_commanded : (words : List (List ℕ)) (now : World) (fault : PacFault) → CommandsFault words fault → Stands words now now (Some fault)
-not_commanded words now Memory h = let found = some_command words (command_of words) refl h in record {
-  command = found.0;
-  taken = found.1;
-  names = [];
-  later = files_of found.0;
-  first = refl;
-  asks = asks_nothing now;
-  reads = refl;
+not_asked : (class : Class) (words : List (List ℕ)) (now : World) (fault : PacFault) → AsksNot class words fault → StandsIn class words now now fault
+not_asked no_memory words now fault h = record { told_as = h; asks = asks_no_file (wanted words) now.shelf; reads = refl; writes = refl; output = inl refl }
+not_asked bad_words words now fault h = (
+  asks_nothing now.shelf,
+  record {
+    reads = refl;
+    writes = still now.paper;
+    cause = no_command;
+    answered = subst (λ (asked : Option Command). AnswersAsked asked now.shelf.files (refused no_command)) (sym h.0) refl;
+    shown = h.1;
+  },
+)
+not_asked (bad_read name) words now fault h = absurd h
+not_asked bad_write words now fault h = absurd h
+not_asked (long_file name limit) words now fault h = absurd h
+not_asked bad_input words now fault h = absurd h
+
+pub not_commanded : (words : List (List ℕ)) (now : World) (fault : PacFault) → AsksNot (class_of fault) words fault → Stands words now now (Some fault)
+not_commanded words now fault h = not_asked (class_of fault) words now fault h
+
+-- memory was wanting before anything was read
+pub no_memory_yet : (words : List (List ℕ)) (now : World) → Stands words now now (Some Memory)
+no_memory_yet words now = not_asked no_memory words now Memory refl
+
+-- the files weren't read
+not_read : (class : Class) (words : List (List ℕ)) (command : Command) (old new : Shelf) (paper : Paper) (fault : PacFault) → command_of words ≡ Some command
+    → GathersNot class (files_of command) old new fault → StandsIn class words (world old paper) (world new paper) fault
+not_read no_memory words command old new paper fault taken h = record {
+  told_as = h.told_as;
+  asks = subst (λ (files : List Wanted). AsksSome files old new) (the_files words command taken) h.asks;
+  reads = h.count;
   writes = refl;
   output = inl refl;
 }
-not_commanded words now (Words fault) h = record {
-  no_command = h.1;
-  told_as = h.0;
-  asks = asks_nothing now;
-  reads = refl;
-  writes = record { same_text = refl; same_faults = refl };
+not_read bad_words words command old new paper fault taken h = absurd h
+not_read (bad_read name) words command old new paper fault taken h = record {
+  file = h.file;
+  named = h.named;
+  asks = subst (λ (files : List Wanted). AsksUpTo h.file files old new) (the_files words command taken) h.asks;
+  rose = h.rose;
+  writes = still paper;
 }
-not_commanded words now (Read name) h = absurd h
-not_commanded words now Write h = absurd h
-not_commanded words now (Svd fault) h = absurd h
-not_commanded words now (Unbuilt path) h = absurd h
-not_commanded words now (Dim fault) h = absurd h
-not_commanded words now (Check fault) h = absurd h
-not_commanded words now (Limit fault) h = absurd h
+not_read bad_write words command old new paper fault taken h = absurd h
+not_read (long_file name limit) words command old new paper fault taken h =
+    let file : Wanted = record { name = name; limit = limit } in (
+      subst (λ (files : List Wanted). AsksUpTo file files old new) (the_files words command taken) h.asks,
+      record {
+        reads = h.count;
+        writes = still paper;
+        cause = file_too_long name limit;
+        answered = the_answer words command old.files (refused (file_too_long name limit)) (is_too_long file) taken h.gathered refl;
+        shown = h.told_as;
+      },
+    )
+not_read bad_input words command old new paper fault taken h = absurd h
 
--- memory was wanting before anything was written
-pub nothing_written : (text : List ℕ) (now : Paper) (fault : PacFault) → fault ≡ Memory → WriteFault text now now fault
-nothing_written text now fault is = rw is (record { part = none_written now.written text; count = refl })
+pub not_gathered : (words : List (List ℕ)) (command : Command) (old new : Shelf) (paper : Paper) (fault : PacFault) → command_of words ≡ Some command
+    → GathersNot (class_of fault) (files_of command) old new fault → Stands words (world old paper) (world new paper) (Some fault)
+not_gathered words command old new paper fault taken h = not_read (class_of fault) words command old new paper fault taken h
+
+-- what is done stands for any command whose files were read
+module _ (words : List (List ℕ)) (command : Command) (inputs : List (List ℕ)) (old new : Shelf) (taken : command_of words ≡ Some command) (read : GathersAll (files_of command) inputs old new) where
+  asks_all : Asks old new (wanted words)
+  asks_all = subst (λ (files : List Wanted). Asks old new files) (the_files words command taken) read.asks
+
+  answered : (answer : Answer) → Decides command inputs answer → IsAnswer words old.files answer
+  answered answer decided = the_answer words command old.files answer (inputs_are inputs) taken read.gathered decided
+
+  part_of : (paper later : Paper) → HasWrittenPart (Decides command inputs) paper later → WritesPart words (world old paper) (world new later)
+  part_of paper later h = record { plan = h.plan; answered = answered (does h.plan) h.decided; part = h.part }
+
+  so_far : (paper later : Paper) → (later.written ≡ paper.written) ⊎ HasWrittenPart (Decides command inputs) paper later
+      → (later.written ≡ paper.written) ⊎ WritesPart words (world old paper) (world new later)
+  so_far paper later (inl same) = inl same
+  so_far paper later (inr part) = inr (part_of paper later part)
+
+  not_done : (class : Class) (paper later : Paper) (fault : PacFault) → DoesNot class (Decides command inputs) paper later fault
+      → StandsIn class words (world old paper) (world new later) fault
+  not_done no_memory paper later fault h = record {
+    told_as = h.told_as;
+    asks = record { before = wanted words; later = []; first = append-nil (wanted words); asks = asks_all };
+    reads = read.count;
+    writes = h.count;
+    output = so_far paper later h.output;
+  }
+  not_done bad_words paper later fault h = absurd h
+  not_done (bad_read name) paper later fault h = absurd h
+  not_done bad_write paper later fault h = record { asks = asks_all; reads = read.count; rose = h.rose; output = part_of paper later h.output }
+  not_done (long_file name limit) paper later fault h = absurd h
+  not_done bad_input paper later fault h = (
+    asks_all,
+    record {
+      reads = read.count;
+      writes = h.writes;
+      cause = h.cause;
+      answered = answered (refused h.cause) h.decided;
+      shown = h.shown;
+    },
+  )
+
+  pub performed : {T : Type 0} (paper later : Paper) (result : Result T PacFault) → Does (Decides command inputs) paper later result
+      → Stands words (world old paper) (world new later) (result_err result)
+  performed paper later (Ok value) h = record {
+    asks = asks_all;
+    reads = read.count;
+    writes = h.count;
+    plan = h.plan;
+    answered = answered (does h.plan) h.decided;
+    whole = h.whole;
+  }
+  performed paper later (Err fault) h = not_done (class_of fault) paper later fault h

@@ -1,8 +1,9 @@
-pub mod Commands
 pub mod Resolving
+pub mod Inputs
 pub mod Answers
+pub mod Headline
 pub mod Showing
-pub mod Causes
-pub mod FaultTexts
+pub mod Worlds
+pub mod Standing
 pub mod Stages
 pub mod Telling

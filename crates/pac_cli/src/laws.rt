@@ -1,7 +1,14 @@
-ghost use Rattle.std.specs.Prelude.{ℕ, List, ◌≡◌};
-ghost use Rattle.pac_cli.specs.Answers.{Answer, FileMap, IsAnswer};
+ghost use Rattle.std.specs.Prelude.{ℕ, List, Some, ◌≡◌};
+ghost use Rattle.pac_cli.specs.Answers.{Answer, Decides, IsAnswer};
+ghost use Rattle.pac_inputs.specs.Gathering.{FileMap};
+ghost use Rattle.pac_words.specs.declared.command.Command.{Command};
 
 /// The words and the files decide at most one answer.
 pub fn one_answer()
-    ensures { (words : List (List ℕ)) (files : FileMap) (one other : Answer) → IsAnswer words files one → IsAnswer words files other → one ≡ other }
+    ensures { (words : List (List ℕ)) (files : FileMap) (one other : Answer) → IsAnswer words (Some files) one → IsAnswer words (Some files) other → one ≡ other }
+{}
+
+/// A command and its inputs decide at most one answer.
+pub fn one_decision()
+    ensures { (command : Command) (inputs : List (List ℕ)) (one other : Answer) → Decides command inputs one → Decides command inputs other → one ≡ other }
 {}

@@ -2,17 +2,16 @@
 // one line that tells of a fault.
 #![tactic(auto)]
 
-mod command;
-mod fault;
-mod fault_text;
+mod generating;
+mod inputs;
 mod laws;
 mod listing;
 mod outcome;
+mod performing;
 mod resolving;
 mod run;
 mod telling;
 
-pub use fault::{LimitFault, PacFault, WordsFault};
-pub use laws::one_answer;
+pub use laws::{one_answer, one_decision};
 pub use outcome::{Outcome, Told};
 pub use run::run_pac;

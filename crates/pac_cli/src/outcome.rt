@@ -1,4 +1,4 @@
-use crate::fault::PacFault;
+use pac_fault::PacFault;
 
 /// What became of the line that tells of a fault.
 #[derive(Clone, Copy, Debug, PartialEq, Eq)]

@@ -1,15 +1,23 @@
 ghost use Rattle.std.specs.Result.{result_err};
-ghost use Rattle.std.specs.Prelude.{◌≡◌};
-ghost use Rattle.pac_cli.specs.Causes.{Stands, IsComplete, status_of, status_at, world};
-ghost use Rattle.pac_cli.specs.Telling.{Tells, voice};
+ghost use Rattle.std.specs.Prelude.{◌≡◌, IfOk, None};
+ghost use Rattle.pac_cli.specs.Headline.{WordsHaveText};
+ghost use Rattle.pac_words.specs.Commands.{command_of};
+ghost use Rattle.pac_cli.specs.Standing.{Stands, IsComplete};
+ghost use Rattle.pac_cli.specs.Stages.{AsksFor};
+ghost use Rattle.pac_cli.specs.Telling.{Tells};
+ghost use Rattle.pac_cli.specs.Worlds.{paper, world};
+ghost use Rattle.pac_inputs.specs.Shelves.{shelf};
+ghost use Rattle.pac_fault.specs.Statuses.{status_of};
 
-use crate::command::{Command, command_of};
-use crate::fault::PacFault;
-use crate::listing::list;
+use crate::inputs::files_of;
 use crate::outcome::Outcome;
+use crate::performing::perform;
 use crate::telling::tell;
 use pac_base::Text;
+use pac_fault::{PacFault, WordsFault, status_of};
+use pac_inputs::gather;
 use pac_io::{Files, Sink};
+use pac_words::{Command, command_of};
 use std::alloc::Global;
 
 /// Does what the words ask for: reads the files that they name, writes the output to `out`, and
@@ -24,21 +32,23 @@ pub fn run_pac<F: Files, S: Sink, E: Sink>(
 ) -> Outcome
     // Each fault, and none, has its cause, and says what was asked for and written.
     ensures stands { Stands words.now
-        (world (F.told files.old) (F.asked files.old) (F.faults files.old) (S.written out.old) (S.faults out.old))
-        (world (F.told files.new) (F.asked files.new) (F.faults files.new) (S.written out.new) (S.faults out.new))
+        (world (shelf (F.told files.old) (F.asked files.old) (F.faults files.old)) (paper (S.written out.old) (S.faults out.old)))
+        (world (shelf (F.told files.new) (F.asked files.new) (F.faults files.new)) (paper (S.written out.new) (S.faults out.new)))
         result.fault }
 
     // The answer that the words and the told files decide is the one that comes.
     ensures complete { IsComplete words.now
-        (world (F.told files.old) (F.asked files.old) (F.faults files.old) (S.written out.old) (S.faults out.old))
-        (world (F.told files.new) (F.asked files.new) (F.faults files.new) (S.written out.new) (S.faults out.new))
+        (world (shelf (F.told files.old) (F.asked files.old) (F.faults files.old)) (paper (S.written out.old) (S.faults out.old)))
+        (world (shelf (F.told files.new) (F.asked files.new) (F.faults files.new)) (paper (S.written out.new) (S.faults out.new)))
         result.fault }
+    // The text that `generate` writes stands for the description.
+    ensures headline { result.fault ≡ None → WordsHaveText (command_of words.now) (F.told files.old) (S.written out.old) (S.written out.new) }
     ensures status { result.status ≡ status_of result.fault }
-    ensures told { Tells result.fault result.told (voice (E.written err.old) (E.faults err.old)) (voice (E.written err.new) (E.faults err.new)) }
+    ensures told { Tells result.fault result.told (paper (E.written err.old) (E.faults err.old)) (paper (E.written err.new) (E.faults err.new)) }
 {
     let fault = answer(alloc, words, files, out).err();
     let told = tell(alloc, &fault, err);
-    let status = fault.as_ref().map_or(0, status_at);
+    let status = status_of(&fault);
     Outcome {
         status,
         fault,
@@ -52,27 +62,24 @@ fn answer<F: Files, S: Sink>(
     files: &mut F,
     out: &mut S,
 ) -> Result<(), PacFault>
-    ensures { Stands words.now
-        (world (F.told files.old) (F.asked files.old) (F.faults files.old) (S.written out.old) (S.faults out.old))
-        (world (F.told files.new) (F.asked files.new) (F.faults files.new) (S.written out.new) (S.faults out.new))
+    ensures stands { Stands words.now
+        (world (shelf (F.told files.old) (F.asked files.old) (F.faults files.old)) (paper (S.written out.old) (S.faults out.old)))
+        (world (shelf (F.told files.new) (F.asked files.new) (F.faults files.new)) (paper (S.written out.new) (S.faults out.new)))
         (result_err result) }
+    ensures headline { IfOk result (λ _. WordsHaveText (command_of words.now) (F.told files.old) (S.written out.old) (S.written out.new)) }
 {
-    match command_of(alloc, words)? {
-        Command::Listing { svd } => list(alloc, svd, files, out),
-    }
+    let command = asked_for(alloc, words)?;
+    let wanted = files_of(alloc, &command)?;
+    let inputs = gather(alloc, wanted, files)?;
+    perform(alloc, &command, inputs.as_slice(), out)
 }
 
-/// The exit status of a fault.
-fn status_at(fault: &PacFault) -> u8
-    ensures { result ≡ status_at fault.now }
+/// The command that the words ask for.
+fn asked_for(alloc: Global, words: &[Text]) -> Result<Command, PacFault>
+    ensures { AsksFor words.now result }
 {
-    match fault {
-        PacFault::Memory => 1,
-        PacFault::Words(_) => 2,
-        PacFault::Read { .. } => 3,
-        PacFault::Write => 4,
-        PacFault::Svd(_) => 6,
-        PacFault::Unbuilt { .. } | PacFault::Dim(_) | PacFault::Check(_) => 8,
-        PacFault::Limit(_) => 11,
+    match command_of(alloc, words)? {
+        Some(command) => Ok(command),
+        None => Err(PacFault::Words(WordsFault::Clap)),
     }
 }

@@ -27,10 +27,7 @@ pub fn call(
     wanted: &Wanted<'_>,
 ) -> Result<(), Fail> {
     let row = wanted.row;
-    let mut texts = Vec::new(rt.alloc());
-    for word in words {
-        texts.push(Text::new(rt.alloc(), word.as_bytes())?)?;
-    }
+    let texts = texts(rt, words)?;
     let mut err = MemSink::new(rt.alloc());
     let outcome = run_pac(rt.alloc(), texts.as_slice(), &mut files, &mut out, &mut err);
     assert_eq!(rt; outcome.status, wanted.status, "{row}");
@@ -43,6 +40,15 @@ pub fn call(
     };
     assert_eq!(rt; err.written(), line.as_bytes(), "{row}");
     Ok(())
+}
+
+/// Words as texts.
+pub fn texts(rt: &impl AllocGlobal, words: &[&str]) -> Result<Vec<Text>, Fail> {
+    let mut texts = Vec::new(rt.alloc());
+    for word in words {
+        texts.push(Text::new(rt.alloc(), word.as_bytes())?)?;
+    }
+    Ok(texts)
 }
 
 /// One file in memory.

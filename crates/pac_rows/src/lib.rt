@@ -7,6 +7,8 @@ mod faults;
 #[cfg(test)]
 mod harness;
 #[cfg(test)]
+mod inputs;
+#[cfg(test)]
 mod registers;
 #[cfg(test)]
 mod surroundings;

@@ -1,4 +1,5 @@
-use crate::harness::{ONE_REGISTER, call, described, file, lists, refusal};
+use crate::harness::{ONE_REGISTER, call, described, file, lists, refusal, texts};
+use pac_cli::{Told, run_pac};
 use pac_io::{MemFiles, MemSink};
 use std::test::Fail;
 
@@ -6,12 +7,25 @@ const USAGE: &str =
     "usage: pac list SVD, generate SVD, exec CRATE SCRIPT, run SVD SCRIPT or sample NUMBER COUNT, with --patch P, --strict, --bus zero or memory";
 
 // Words that are those of no command.
-const WORDS: [&[&str]; 5] = [
-    &["list"],
+const WORDS: [&[&str]; 18] = [
     &[],
+    &[""],
+    &["--"],
+    &["--help"],
+    &["-h"],
+    &["help"],
+    &["list"],
     &["lists", "x.svd"],
+    &["list", "--help"],
+    &["list", "x.svd", "-h"],
     &["list", "--strict"],
+    &["list", "x.svd", "--strict", "--strict"],
+    &["--strict", "list", "x.svd"],
+    &["list", "x.svd", "--patch=p.yaml"],
+    &["list", "--", "x.svd", "--strict"],
     &["list", "x.svd", "y.svd"],
+    &["--", "list", "x.svd"],
+    &["generate", "x.svd"],
 ];
 
 #[test]
@@ -24,12 +38,47 @@ fn words_of_no_command(rt: HostRuntime) -> Result<(), Fail> {
     Ok(())
 }
 
+// Words that name a file, and the name.
+const FILE_WORDS: [(&[&str], &str); 6] = [
+    (&["list", "x.svd"], "cannot read x.svd"),
+    (&["list", "--", "x.svd"], "cannot read x.svd"),
+    (&["list", "--", "--strict"], "cannot read --strict"),
+    (&["list", "help"], "cannot read help"),
+    (&["list", "-"], "cannot read -"),
+    (&["list", ""], "cannot read "),
+];
+
 #[test]
-fn files_that_are_not_there(rt: HostRuntime) -> Result<(), Fail> {
-    let files = MemFiles::new(rt.alloc());
+fn words_that_name_a_file(rt: HostRuntime) -> Result<(), Fail> {
+    for (words, fault) in FILE_WORDS {
+        let files = MemFiles::new(rt.alloc());
+        let out = MemSink::new(rt.alloc());
+        call(&rt, words, files, out, &refusal(fault, 3, fault))?;
+    }
+    Ok(())
+}
+
+#[test]
+fn reads_that_fail(rt: HostRuntime) -> Result<(), Fail> {
+    let mut files = file(&rt, "x.svd", ONE_REGISTER.as_bytes())?;
+    files.fail(1)?;
     let out = MemSink::new(rt.alloc());
     let wanted = refusal("files", 3, "cannot read x.svd");
     call(&rt, &["list", "x.svd"], files, out, &wanted)
+}
+
+#[test]
+fn an_error_output_that_fails(rt: HostRuntime) -> Result<(), Fail> {
+    let mut files = MemFiles::new(rt.alloc());
+    let mut out = MemSink::new(rt.alloc());
+    let mut err = MemSink::new(rt.alloc());
+    err.fail(1)?;
+    let words = texts(&rt, &["list", "x.svd"])?;
+    let outcome = run_pac(rt.alloc(), words.as_slice(), &mut files, &mut out, &mut err);
+    assert_eq!(rt; outcome.status, 3);
+    assert_eq!(rt; outcome.told, Told::Failed);
+    assert_eq!(rt; err.written(), b"".as_slice());
+    Ok(())
 }
 
 #[test]
@@ -39,6 +88,28 @@ fn sinks_whose_first_write_fails(rt: HostRuntime) -> Result<(), Fail> {
     out.fail(1)?;
     let wanted = refusal("sinks", 4, "cannot write");
     call(&rt, &["list", "x.svd"], files, out, &wanted)
+}
+
+// An array of registers whose listing goes out in more than one write.
+const LONG: &str =
+    "<register><name>R[%s]</name><addressOffset>0</addressOffset><dim>3000</dim><dimIncrement>4</dimIncrement></register>";
+
+#[test]
+fn sinks_whose_second_write_fails(rt: HostRuntime) -> Result<(), Fail> {
+    let description = described(&rt, LONG)?;
+    let mut files = file(&rt, "x.svd", description.as_bytes())?;
+    let mut out = MemSink::new(rt.alloc());
+    out.fail(2)?;
+    let mut err = MemSink::new(rt.alloc());
+    let words = texts(&rt, &["list", "x.svd"])?;
+    let outcome = run_pac(rt.alloc(), words.as_slice(), &mut files, &mut out, &mut err);
+    assert_eq!(rt; outcome.status, 4);
+    assert_eq!(rt; err.written(), b"pac: cannot write\n".as_slice());
+    assert!(rt;
+        out.written()
+            .starts_with(b"T.r[0] 0x40000000 32 rw 0x00000000\n")
+    );
+    Ok(())
 }
 
 #[test]

@@ -1,6 +1,0 @@
-use Rattle.pac_cli.specs.FaultTexts.{text_of}
-use Rattle.pac_cli.proofs.fault_text.push_text.Goals as goal
-
-pub returns-in-Read : goal.returns-in-Read
-unfolding text_of
-returns-in-Read c = rw (c.in-Read.is, ← c.as_str.ensures, ← c.as_bytes.ensures.value) c.push_pair.ensures

@@ -1,0 +1,24 @@
+-- The files that a command reads, in order, and how long each may be. This project's own rule.
+use Rattle.std.specs.Prelude.{ℕ, List, [], ◌∷◌, Option, Some, None}
+use Rattle.pac_words.specs.declared.command.Command.{Command}
+use Rattle.pac_words.specs.declared.command.Command.TheVariants.{Generating, Listing}
+use Rattle.pac_words.specs.declared.command.Source.{Source}
+use Rattle.pac_inputs.specs.declared.gathering.Wanted.{Wanted}
+
+-- how many bytes a description may have: 64 MiB
+abbrev pub longest : ℕ
+longest = 67108864
+
+-- the files that a description comes from
+abbrev pub source_files : Source → List Wanted
+source_files source = record { name = source.svd; limit = longest } ∷ []
+
+-- the files of a command, in the order in which it reads them
+abbrev pub files_of : Command → List Wanted
+files_of (Listing source) = source_files source
+files_of (Generating source) = source_files source
+
+-- those of no command are none
+abbrev pub wanted_by : Option Command → List Wanted
+wanted_by None = []
+wanted_by (Some command) = files_of command

@@ -1,0 +1,4 @@
+pub mod FaultTexts
+pub mod Layers
+pub mod Statuses
+pub mod Classes

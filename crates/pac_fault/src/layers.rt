@@ -1,0 +1,103 @@
+ghost use Rattle.std.specs.Prelude.{◌≡◌};
+ghost use Rattle.pac_fault.specs.Layers.{of_checking, of_passage, of_reading, of_unfolding, of_writing};
+ghost use Rattle.pac_fault.specs.declared.fault.PacFault.TheVariants.{Memory};
+
+use crate::fault::{LimitFault, PacFault};
+use dim_expand::DimFault;
+use overlap_check::CheckFault;
+use pac_base::{Back, NoMemory};
+use pac_io::SinkFault;
+use std::alloc::{AllocError, AllocFailed};
+use svd_model::UnbuiltFault;
+use svd_reader::SvdFault;
+
+impl From<AllocError> for PacFault {
+    ghost from_gives = { λ _ fault. fault ≡ Memory };
+
+    fn from(_error: AllocError) -> PacFault {
+        PacFault::Memory
+    }
+}
+
+impl<T: Drop> From<AllocFailed<T>> for PacFault {
+    ghost from_gives = { λ _ fault. fault ≡ Memory };
+
+    fn from(_error: AllocFailed<T>) -> PacFault {
+        PacFault::Memory
+    }
+}
+
+impl From<NoMemory> for PacFault {
+    ghost from_gives = { λ _ fault. fault ≡ Memory };
+
+    fn from(_error: NoMemory) -> PacFault {
+        PacFault::Memory
+    }
+}
+
+impl From<SinkFault> for PacFault {
+    ghost from_gives = { λ error fault. fault ≡ of_writing error };
+
+    fn from(error: SinkFault) -> PacFault {
+        match error {
+            SinkFault::Failed => PacFault::Write,
+            SinkFault::Memory => PacFault::Memory,
+        }
+    }
+}
+
+impl From<SvdFault> for PacFault {
+    ghost from_gives = { λ error fault. fault ≡ of_reading error };
+
+    fn from(error: SvdFault) -> PacFault {
+        match error {
+            SvdFault::TooMany { kind, count } => {
+                PacFault::Limit(LimitFault::TooMany { kind, count })
+            }
+            SvdFault::Memory => PacFault::Memory,
+            fault => PacFault::Svd(fault),
+        }
+    }
+}
+
+impl<S: Drop> From<Back<S, UnbuiltFault>> for PacFault {
+    ghost from_gives = { λ error fault. fault ≡ of_passage error.fault };
+
+    fn from(error: Back<S, UnbuiltFault>) -> PacFault {
+        of_passage(error.fault)
+    }
+}
+
+fn of_passage(fault: UnbuiltFault) -> PacFault
+    ensures { result ≡ of_passage fault }
+{
+    match fault {
+        UnbuiltFault::Unbuilt { path } => PacFault::Unbuilt { path },
+        UnbuiltFault::Memory => PacFault::Memory,
+    }
+}
+
+impl<S: Drop> From<Back<S, DimFault>> for PacFault {
+    ghost from_gives = { λ error fault. fault ≡ of_unfolding error.fault };
+
+    fn from(error: Back<S, DimFault>) -> PacFault {
+        match error.fault {
+            DimFault::TooMany { kind, count } => {
+                PacFault::Limit(LimitFault::TooMany { kind, count })
+            }
+            DimFault::Memory => PacFault::Memory,
+            fault => PacFault::Dim(fault),
+        }
+    }
+}
+
+impl<S: Drop> From<Back<S, CheckFault>> for PacFault {
+    ghost from_gives = { λ error fault. fault ≡ of_checking error.fault };
+
+    fn from(error: Back<S, CheckFault>) -> PacFault {
+        match error.fault {
+            CheckFault::Memory => PacFault::Memory,
+            fault => PacFault::Check(fault),
+        }
+    }
+}

@@ -1,0 +1,12 @@
+// Why a call of `pac` didn't do what its words asked for: the faults, the exit status of each, and the
+// line that tells of it.
+#![tactic(auto)]
+
+mod fault;
+mod fault_text;
+mod layers;
+mod status;
+
+pub use fault::{LimitFault, PacFault, WordsFault};
+pub use fault_text::fault_line;
+pub use status::status_of;

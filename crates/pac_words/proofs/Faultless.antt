@@ -1,0 +1,153 @@
+-- Words without a fault ask for a command.
+use Rattle.std.proofs.Common.{◌≡◌, ap, sym, refl, Option, Some, None, List, [], ◌∷◌, Bool, true, false, ◌∙◌, codes, find, not, ◌&&◌, ◌||◌, if◌then◌else◌, is_some, option_map}
+use Rattle.std.specs.Bool.{⊤}
+use Rattle.std.specs.List.{list_any}
+use Rattle.std.specs.Option.{IsSome, option_map_or}
+use Rattle.std.specs.Str.{bytes_eq}
+use Rattle.std.proofs.lemmas.Slice.Eq.{bytes_eq-Decides}
+use Rattle.clap.specs.Words.{Row, Rule, Shape, Text, fault_of, first_of, subcommand_of}
+use Rattle.clap.specs.Kinds.{Kinds, check_kinds, or_else}
+use Rattle.clap.specs.Faults.{check_fault, defaults_fault, entered_fault, level_fault, settle_fault, walk_fault}
+use Rattle.clap.specs.Takes.{is_given}
+use Rattle.clap.specs.Walk.{Names, answers_to, finished, nothing_held, rows_after, settled, walk, walk_from}
+use Rattle.clap.specs.Simple.{built, entered, label_of, names_of, rows_at}
+use Rattle.pac_words.proofs.Filled.{HavePlaces, given_value, rows_after_full}
+use Rattle.pac_words.specs.Table.{table}
+use Rattle.pac_words.specs.Commands.{chosen, command_of, without_fault, told}
+
+later : (a b : Kinds) → or_else a b ≡ [] → b ≡ []
+later [] b none = none
+later (k ∷ ks) b none = absurd (cc none)
+
+sooner : (a b : Kinds) → or_else a b ≡ [] → a ≡ []
+sooner [] b none = refl
+sooner (k ∷ ks) b none = absurd (cc none)
+
+checked : (a b c : Bool) → check_kinds a b c ≡ [] → (b ≡ false) × (c ≡ false)
+checked true b c none = absurd (cc none)
+checked false true c none = absurd (cc none)
+checked false false true none = absurd (cc none)
+checked false false false none = (refl, refl)
+
+-- some rule of this id is required
+abbrev pub IsDemanded : Text → List Rule → Type 0
+IsDemanded id rules = list_any (λ a. a.required && bytes_eq a.id id) rules ≡ true
+
+given_at : (required same : Bool) (key id : Text) (rows : List Row) (others rest : Bool) → bytes_eq key id ≡ same → (others ≡ true → rest ≡ false → is_given id rows ≡ true)
+    → ((required && same) || others) ≡ true → ((required && not (is_given key rows)) || rest) ≡ false → is_given id rows ≡ true
+given_at true true key id rows others rest is more some none = go (is_given key rows) refl none
+  where
+    go : (b : Bool) → is_given key rows ≡ b → (not b || rest) ≡ false → is_given id rows ≡ true
+    go true given held = ap (λ k. is_given k rows) (sym ((bytes_eq-Decides key id).0 is)) ∙ given
+    go false given held = absurd (cc held)
+given_at true false key id rows others rest is more some none = go (is_given key rows) none
+  where
+    go : (b : Bool) → (not b || rest) ≡ false → is_given id rows ≡ true
+    go true held = more some held
+    go false held = absurd (cc held)
+given_at false same key id rows others rest is more some none = more some none
+
+given_all : (id : Text) (rules : List Rule) (rows : List Row) → IsDemanded id rules
+    → list_any (λ a. a.required && not (is_given a.id rows)) rules ≡ false → is_given id rows ≡ true
+given_all id [] rows some none = absurd (cc some)
+given_all id (a ∷ rules) rows some none =
+    given_at a.required (bytes_eq a.id id) a.id id rows (list_any (λ a. a.required && bytes_eq a.id id) rules)
+    (list_any (λ a. a.required && not (is_given a.id rows)) rules) refl (given_all id rules rows) some none
+
+-- the last check of a level passes
+check_passes : (s : Shape) (names : Names) (words : List Text) (has : Bool) (below : Kinds) → level_fault s names nothing_held words has below ≡ []
+    → check_fault s (rows_after s.rules names words) has ≡ []
+check_passes s names words has below none =
+    let end = (walk s.rules names nothing_held words).held in
+    let settles = settle_fault s.rules s.args_override_self end in
+    let fills = defaults_fault (settled s.rules end).rows s.rules in
+    let checks = check_fault s (finished s.rules end) has in
+    later fills checks (later settles (or_else fills checks)
+    (later below (or_else settles (or_else fills checks))
+    (later (walk_fault s names (walk_from nothing_held) words) (or_else below (or_else settles (or_else fills checks))) none)))
+
+below_passes : (s : Shape) (names : Names) (words : List Text) (has : Bool) (below : Kinds) → level_fault s names nothing_held words has below ≡ [] → below ≡ []
+below_passes s names words has below none =
+    let end = (walk s.rules names nothing_held words).held in
+    let rest = or_else (settle_fault s.rules s.args_override_self end)
+    (or_else (defaults_fault (settled s.rules end).rows s.rules) (check_fault s (finished s.rules end) has)) in
+    sooner below rest (later (walk_fault s names (walk_from nothing_held) words) (or_else below rest) none)
+
+-- a required argument with a place has a value where a subcommand has no fault
+pub leaf_value : (s : Shape) (id : Text) (words : List Text) → HavePlaces id s.rules → IsDemanded id s.rules → s.subcommand_negates_reqs ≡ false
+    → level_fault s [] nothing_held words false [] ≡ [] → IsSome (first_of id (rows_after s.rules [] words))
+leaf_value s id words places demanded strict none =
+    let rows = rows_after s.rules [] words in
+    let asks = list_any (λ a. a.required && not (is_given a.id rows)) s.rules in
+    let last : (not (s.subcommand_negates_reqs && false) && asks) ≡ false = (checked _ _ _ (check_passes s [] words false [] none)).1 in
+    let all : asks ≡ false = ap (λ b. not (b && false) && asks) (sym strict) ∙ last in
+    given_value id rows (rows_after_full id s.rules [] words places) (given_all id s.rules rows demanded all)
+
+-- a subcommand that is found has what each has
+abbrev pub Each : (Shape → Type 0) → List Shape → Type 0
+Each P [] = ⊤
+Each P (s ∷ subs) = P s × Each P subs
+
+abbrev pub OnFound : (Shape → Type 0) → Option Shape → Type 0
+OnFound P None = ⊤
+OnFound P (Some s) = P s
+
+found : (P : Shape → Type 0) (test : Shape → Bool) (subs : List Shape) → Each P subs → OnFound P (find test subs)
+found P test [] each = tt
+found P test (s ∷ subs) each = go (test s) (find test subs) (found P test subs each.1)
+  where
+    go : (b : Bool) (rest : Option Shape) → OnFound P rest → OnFound P (if b then Some s else rest)
+    go true rest held = each.0
+    go false rest held = held
+
+abbrev Tells : Shape → Type 0
+Tells s = (words : List Text) → level_fault s [] nothing_held words false [] ≡ [] → IsSome (told s.name (rows_after s.rules [] words))
+
+mapped : {X Y : Type 0} (f : X → Y) (o : Option X) → IsSome o → IsSome (option_map f o)
+mapped f None some = absurd (cc some)
+mapped f (Some x) some = refl
+
+each_tells : Each Tells (built table).subs
+each_tells = (
+  (λ words none. mapped _ _ (mapped _ _ (leaf_value _ (codes "svd") words refl refl refl none))),
+  ((λ words none. mapped _ _ (mapped _ _ (leaf_value _ (codes "svd") words refl refl refl none))), tt),
+)
+
+by_stop : (stop : Option (Text × List Text)) → is_some (entered (built table) stop) ≡ true → entered_fault (built table) stop ≡ []
+    → IsSome (chosen (entered (built table) stop))
+by_stop None some none = absurd (cc some)
+by_stop (Some p) some none = go (find (λ s. answers_to p.0 (label_of s)) (built table).subs) (found Tells (λ s. answers_to p.0 (label_of s)) (built table).subs each_tells) some none
+  where
+    go : (o : Option Shape) → OnFound Tells o → is_some (option_map (λ s. rows_at s p.1) o) ≡ true
+        → option_map_or (λ s. level_fault s [] nothing_held p.1 false []) o [] ≡ [] → IsSome (chosen (option_map (λ s. rows_at s p.1) o))
+    go None tells some none = absurd (cc some)
+    go (Some s) tells some none = tells p.1 none
+
+present : (b : Bool) → (not b && true) ≡ false → b ≡ true
+present true held = refl
+present false held = absurd (cc held)
+
+-- where a subcommand is required, one was met
+has_met : (s : Shape) (rows : List Row) (has : Bool) → s.subcommand_required ≡ true → check_fault s rows has ≡ [] → has ≡ true
+has_met s rows has required none = present has (ap (λ b. not has && b) (sym required) ∙ (checked _ _ _ none).0)
+
+-- words in which `clap` finds no fault ask for a command
+pub faultless : (words : List Text) → fault_of table words ≡ [] → IsSome (command_of words)
+unfolding command_of
+faultless words none =
+    let a = built table in
+    let stop = (walk a.top.rules (names_of a) nothing_held words).stopped in
+    let has = is_some (entered a stop) in
+    let below = entered_fault a stop in
+    let met : has ≡ true = has_met a.top (rows_after a.top.rules (names_of a) words) has refl (check_passes a.top (names_of a) words has below none) in
+    ap (λ kinds. is_some (without_fault kinds (chosen (subcommand_of table words)))) none
+    ∙ by_stop stop met (below_passes a.top (names_of a) words has below none)
+
+no_kinds : {X : Type 0} (kinds : Kinds) (given : Option X) → IsSome (without_fault kinds given) → kinds ≡ []
+no_kinds [] given some = refl
+no_kinds (k ∷ kinds) given some = absurd (cc some)
+
+-- and only such words do
+pub only_faultless : (words : List Text) → IsSome (command_of words) → fault_of table words ≡ []
+unfolding command_of
+only_faultless words some = no_kinds (fault_of table words) (chosen (subcommand_of table words)) some

@@ -1,0 +1,31 @@
+-- The command table, as `clap` reads it: a subcommand for each command that is built. This project's own command line.
+use Rattle.std.specs.Prelude.{List, [], ◌∷◌, true, false, codes}
+use Rattle.clap.specs.Words.{App, Rule, Shape, Text, new_rule}
+use Rattle.clap.specs.Simple.{new_shape}
+
+-- a file, which has to be named
+abbrev pub file : Text → Rule
+file id = record (new_rule id) { required = true }
+
+-- a command of this name, with these arguments
+abbrev pub command : Text → List Rule → Shape
+command name rules = record (new_shape name) { rules = rules }
+
+abbrev pub list : Shape
+list = command (codes "list") (file (codes "svd") ∷ [])
+
+abbrev pub generate : Shape
+generate = command (codes "generate") (file (codes "svd") ∷ [])
+
+-- one of the commands has to be chosen, and no word asks for help
+abbrev pub table : App
+table = record {
+  top = record (new_shape (codes "pac")) {
+    is_leaf = false;
+    no_binary_name = true;
+    disable_help_flag = true;
+    disable_help_subcommand = true;
+    subcommand_required = true;
+  };
+  subs = list ∷ generate ∷ [];
+}

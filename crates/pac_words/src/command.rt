@@ -1,0 +1,122 @@
+ghost use Rattle.std.specs.Prelude.{◌≡◌, IfOk, map};
+ghost use Rattle.clap.specs.Words.{first_of, found_of, rows_of};
+ghost use Rattle.pac_words.specs.Commands.{command_of, generating, listing, source_of, told};
+
+use crate::table::table;
+use clap::ArgMatches;
+use clap::error::ErrorKind;
+use pac_base::{NoMemory, Text, TextFault};
+use std::alloc::Global;
+
+/// What the words ask for.
+#[derive(Drop)]
+pub enum Command {
+    /// `list SVD`: a line for each register of a description, and one for each of its fields.
+    Listing {
+        /// The description.
+        source: Source,
+    },
+    /// `generate SVD`: the text of a peripheral access crate.
+    Generating {
+        /// The description.
+        source: Source,
+    },
+}
+
+/// The files that a description comes from.
+#[derive(Drop)]
+pub struct Source {
+    /// The name of the description's file, as the words have it.
+    pub svd: Text,
+}
+
+/// The command that the words ask for, or `None` exactly where `clap` refuses them.
+pub fn command_of(alloc: Global, words: &[Text]) -> Result<Option<Command>, NoMemory>
+    ensures { IfOk result (λ command. command ≡ command_of words.now) }
+{
+    let texts = texts(alloc, words)?;
+    let command = table(alloc)?;
+    let matches = match command.try_get_matches_from(texts.as_slice()) {
+        Ok(matches) => matches,
+        Err(error) => {
+            return match error.kind() {
+                ErrorKind::OutOfMemory => Err(NoMemory),
+                _ => Ok(None),
+            };
+        }
+    };
+    match matches.subcommand() {
+        Some((name, inner)) => told(alloc, name, inner),
+        None => Ok(None),
+    }
+}
+
+/// The words, as `clap` takes them.
+fn texts<'a>(alloc: Global, words: &'a [Text]) -> Result<Vec<&'a str>, NoMemory>
+    ensures { IfOk result (λ texts. map (λ text. text.now) texts.items ≡ words.entry.now) }
+{
+    let mut texts = Vec::new(alloc);
+    for word in words {
+        texts.push(word.as_str())?;
+    }
+    Ok(texts)
+}
+
+/// The command of this name, with the values that were found for its arguments.
+fn told(alloc: Global, name: &str, matches: &ArgMatches<'_>) -> Result<Option<Command>, NoMemory>
+    ensures { IfOk result (λ command. command ≡ told name.now (rows_of (found_of matches.now))) }
+{
+    match name {
+        "list" => listing(alloc, matches),
+        "generate" => generating(alloc, matches),
+        _ => Ok(None),
+    }
+}
+
+fn listing(alloc: Global, matches: &ArgMatches<'_>) -> Result<Option<Command>, NoMemory>
+    ensures { IfOk result (λ command. command ≡ listing (rows_of (found_of matches.now))) }
+{
+    match source_of(alloc, matches)? {
+        Some(source) => Ok(Some(Command::Listing { source })),
+        None => Ok(None),
+    }
+}
+
+fn generating(alloc: Global, matches: &ArgMatches<'_>) -> Result<Option<Command>, NoMemory>
+    ensures { IfOk result (λ command. command ≡ generating (rows_of (found_of matches.now))) }
+{
+    match source_of(alloc, matches)? {
+        Some(source) => Ok(Some(Command::Generating { source })),
+        None => Ok(None),
+    }
+}
+
+fn source_of(alloc: Global, matches: &ArgMatches<'_>) -> Result<Option<Source>, NoMemory>
+    ensures { IfOk result (λ found. found ≡ source_of (rows_of (found_of matches.now))) }
+{
+    match value(alloc, matches, "svd")? {
+        Some(svd) => Ok(Some(Source { svd })),
+        None => Ok(None),
+    }
+}
+
+/// The first value of an argument.
+fn value(alloc: Global, matches: &ArgMatches<'_>, id: &str) -> Result<Option<Text>, NoMemory>
+    ensures { IfOk result (λ text. text ≡ first_of id.now (rows_of (found_of matches.now))) }
+{
+    match matches.get_str(id) {
+        Some(word) => Ok(Some(text(alloc, word)?)),
+        None => Ok(None),
+    }
+}
+
+/// The text of a word.
+fn text(alloc: Global, word: &str) -> Result<Text, NoMemory>
+    ensures { IfOk result (λ text. text ≡ word.now) }
+{
+    match Text::new(alloc, word.as_bytes()) {
+        Ok(text) => Ok(text),
+        Err(TextFault::NotUtf8) => unreachable!(),
+        Err(TextFault::Memory) => Err(NoMemory),
+    }
+}
