@@ -1,6 +1,6 @@
 #!/usr/bin/env bash
-# The checks that need the built program: each description under examples/ that has a listing beside it is listed
-# so, real files and outputs that fail are told so, and `./pac` works through a symbolic link. Says nothing where
+# The checks that need the built program: each description under examples/ that has a listing or a crate text beside
+# it is listed or printed so, real files and outputs that fail are told so, and `./pac` works through a symbolic link. Says nothing where
 # all hold, and ends with 1 where one doesn't.
 top="$(cd "$(dirname "$0")/.." && pwd)" || exit 1
 program="$top/crates/pac_main/out/pac_main"
@@ -26,6 +26,18 @@ for listing in "$top"/examples/*.txt; do
     listed=$((listed + 1))
 done
 [ "$listed" -gt 0 ] || fail "no listing stands under examples/"
+
+generated=0
+for text in "$top"/examples/*.rs; do
+    example="examples/$(basename "$text" .rs).svd"
+    "$program" generate "$top/$example" >"$folder/out" 2>"$folder/err"
+    status=$?
+    [ "$status" -eq 0 ] || fail "$example: status $status"
+    diff "$text" "$folder/out" >&2 || fail "$example: its crate text differs"
+    [ -s "$folder/err" ] && fail "$example: $(cat "$folder/err")"
+    generated=$((generated + 1))
+done
+[ "$generated" -gt 0 ] || fail "no crate text stands under examples/"
 
 # fails STATUS LINE WHAT: the last run's status and line, and that nothing went to standard output.
 fails() {

@@ -7,7 +7,7 @@ const USAGE: &str =
     "usage: pac list SVD, generate SVD, exec CRATE SCRIPT, run SVD SCRIPT or sample NUMBER COUNT, with --patch P, --strict, --bus zero or memory";
 
 // Words that are those of no command.
-const WORDS: [&[&str]; 18] = [
+const WORDS: [&[&str]; 19] = [
     &[],
     &[""],
     &["--"],
@@ -24,8 +24,9 @@ const WORDS: [&[&str]; 18] = [
     &["list", "x.svd", "--patch=p.yaml"],
     &["list", "--", "x.svd", "--strict"],
     &["list", "x.svd", "y.svd"],
+    &["generate"],
     &["--", "list", "x.svd"],
-    &["generate", "x.svd"],
+    &["exec", "x.rs", "x.script"],
 ];
 
 #[test]
@@ -39,7 +40,8 @@ fn words_of_no_command(rt: HostRuntime) -> Result<(), Fail> {
 }
 
 // Words that name a file, and the name.
-const FILE_WORDS: [(&[&str], &str); 6] = [
+const FILE_WORDS: [(&[&str], &str); 7] = [
+    (&["generate", "x.svd"], "cannot read x.svd"),
     (&["list", "x.svd"], "cannot read x.svd"),
     (&["list", "--", "x.svd"], "cannot read x.svd"),
     (&["list", "--", "--strict"], "cannot read --strict"),
