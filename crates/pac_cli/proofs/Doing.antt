@@ -1,5 +1,5 @@
 -- From what a stage leaves to what is done for a command.
-use Rattle.std.proofs.Common.{ℕ, ◌≡◌, ◌++◌, Option, Some, None, List, true, Result, Ok, Err, IfOk, refl, sym, ap, ◌∙◌, subst, inl, inr}
+use Rattle.std.proofs.Common.{ℕ, ◌≡◌, Option, Some, None, List, true, Result, Ok, Err, IfOk, refl, sym, ap, ◌∙◌, subst, inl, inr}
 use Rattle.std.specs.Io.KnownBytes.{Appends}
 use Rattle.std.specs.Result.{result_err}
 use Rattle.pac_io.specs.Writing.{AppendsPrefix, FaultCause}
@@ -26,7 +26,7 @@ use Rattle.frag_tree.proofs.Fine.{printed_words}
 use Rattle.frag_tree.specs.Crates.{printed}
 use Rattle.frag_tree.specs.Trees.{CrateTree}
 use Rattle.frag_tree.specs.Validity.{valid_crate}
-use Rattle.pac_cli.specs.Headline.{IsTextFor, WordsHaveText, WritesText, WritesTextFor}
+use Rattle.pac_cli.specs.Headline.{WordsHaveText, WritesText, WritesTextFor}
 use Rattle.pac_cli.specs.Inputs.{files_of}
 use Rattle.pac_inputs.specs.Gathering.{FileMap, Gathered, inputs_are}
 use Rattle.pac_words.specs.Commands.{command_of}

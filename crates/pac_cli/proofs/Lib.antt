@@ -2,3 +2,4 @@ pub mod Stopping
 pub mod Doing
 pub mod Standing
 pub mod OneAnswer
+pub mod RefusedWords

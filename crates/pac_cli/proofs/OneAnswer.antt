@@ -1,6 +1,5 @@
 -- The words and the files decide one answer at most, so the one that comes is that one.
 use Rattle.std.proofs.Common.{ℕ, ◌≡◌, ◌⊎◌, List, [], ◌∷◌, Option, Some, None, IfSome, refl, sym, ap, ◌∙◌, subst, inl, inr}
-use Rattle.pac_io.specs.Rose.{Rose}
 use Rattle.svd_reader.specs.Described.{Answer as Reading, HasAnswer}
 use Rattle.pac_words.specs.Commands.{command_of}
 use Rattle.pac_words.specs.declared.command.Command.{Command}

@@ -1,5 +1,5 @@
 -- From what each stage of a command leaves to what stands after the call.
-use Rattle.std.proofs.Common.{ℕ, ◌≡◌, ◌⊎◌, List, [], ◌∷◌, ◌++◌, Option, Some, None, IfSome, Result, Ok, Err, refl, sym, ap, ◌∙◌, subst, inl, inr}
+use Rattle.std.proofs.Common.{ℕ, ◌≡◌, ◌⊎◌, List, [], ◌++◌, Option, Some, None, IfSome, Result, Ok, Err, refl, sym, ap, subst, inl, inr}
 use Rattle.std.proofs.lemmas.List.{append-nil}
 use Rattle.std.specs.Result.{result_err}
 use Rattle.pac_words.specs.Commands.{command_of}
@@ -7,13 +7,13 @@ use Rattle.pac_words.specs.declared.command.Command.{Command}
 use Rattle.pac_fault.specs.Classes.{Class, no_memory, bad_words, bad_read, bad_write, long_file, bad_input, class_of}
 use Rattle.pac_fault.specs.declared.fault.PacFault.{PacFault}
 use Rattle.pac_fault.specs.declared.fault.PacFault.TheVariants.{Memory}
-use Rattle.pac_cli.specs.Answers.{Cause, no_command, file_too_long, Answer, refused, does, Decides, DecidesOn, AnswersAsked, IsAnswer}
+use Rattle.pac_cli.specs.Answers.{no_command, file_too_long, Answer, refused, does, Decides, DecidesOn, AnswersAsked, IsAnswer}
 use Rattle.pac_inputs.specs.Gathering.{FileMap, Gathering, inputs_are, is_too_long, Gathered}
 use Rattle.pac_inputs.specs.Reads.{GathersAll, GathersNot}
 use Rattle.pac_inputs.specs.Shelves.{Shelf, Asks, AsksSome, AsksUpTo}
 use Rattle.pac_inputs.specs.declared.gathering.Wanted.{Wanted}
 use Rattle.pac_cli.specs.Inputs.{files_of, wanted_by}
-use Rattle.pac_cli.specs.Standing.{wanted, WritesPart, RunsOutOfMemory, StandsIn, Stands}
+use Rattle.pac_cli.specs.Standing.{wanted, WritesPart, StandsIn, Stands}
 use Rattle.pac_cli.specs.Stages.{AsksNot, HasWrittenPart, DoesNot, Does}
 use Rattle.pac_cli.specs.Worlds.{Paper, World, world, WritesNothing}
 

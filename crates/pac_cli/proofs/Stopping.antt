@@ -1,5 +1,5 @@
 -- From what each stage over a description leaves to what its files come to.
-use Rattle.std.proofs.Common.{ℕ, ◌≡◌, List, [], ◌∷◌, map, Option, Some, None, option_map, option_and_then, Result, Ok, Err, refl, sym, ap, ap₂, ◌∙◌, subst}
+use Rattle.std.proofs.Common.{ℕ, ◌≡◌, List, [], ◌∷◌, map, Some, None, Err, refl, sym, ap, ap₂, ◌∙◌}
 use Rattle.pac_base.specs.declared.path.Step.{Step as NamedStep}
 use Rattle.dim_expand.specs.declared.fault.DimFault.{DimFault}
 use Rattle.dim_expand.specs.declared.fault.DimFault.TheVariants as dim
@@ -15,7 +15,7 @@ use Rattle.svd_model.specs.declared.passages.UnbuiltFault.TheVariants as passage
 use Rattle.svd_model.specs.Keys.{Key}
 use Rattle.svd_model.specs.Steps.{Step}
 use Rattle.svd_model.specs.Unbuilt.{first_source, PassesUnless}
-use Rattle.svd_reader.specs.Described.{Answer as Reading, no_text, too_deep, at_fault, too_many as too_many_read, described, HasAnswer}
+use Rattle.svd_reader.specs.Described.{Answer as Reading, described, HasAnswer}
 use Rattle.svd_keys.specs.declared.fault.Fault.TheVariants as keys
 use Rattle.svd_reader.specs.Refusals.{OrMemory, Refuses}
 use Rattle.svd_reader.specs.declared.fault.SvdFault.{SvdFault}
@@ -23,9 +23,8 @@ use Rattle.svd_reader.specs.declared.fault.SvdFault.TheVariants as svd
 use Rattle.svd_rows.specs.Rows.{Row}
 use Rattle.pac_fault.specs.Classes.{class_of}
 use Rattle.pac_fault.specs.Layers.{of_reading, of_passage, of_unfolding, of_checking}
-use Rattle.pac_fault.specs.declared.fault.PacFault.{PacFault}
 use Rattle.pac_fault.specs.declared.fault.PacFault.TheVariants.{Check}
-use Rattle.pac_cli.specs.Resolving.{Unresolved, no_description, nests_too_deep, misdescribed, too_many, unbuilt, misdimensioned, fails_check, Resolution, stopped, resolved, then_by, unless, by_reading, by_deriving, dim_stops, by_unfolding, by_checking, resolution_of, SourceBytes, ComeTo}
+use Rattle.pac_cli.specs.Resolving.{Unresolved, no_description, nests_too_deep, misdescribed, too_many, unbuilt, misdimensioned, fails_check, Resolution, stopped, resolved, then_by, by_reading, by_deriving, dim_stops, by_unfolding, by_checking, resolution_of, SourceBytes, ComeTo}
 use Rattle.pac_cli.specs.Showing.{ShowsUnresolved}
 use Rattle.pac_cli.specs.Stages.{ResolvesNot}
 

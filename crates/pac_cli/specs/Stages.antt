@@ -1,5 +1,5 @@
 -- What each stage of a command answers: its value, or a fault by its class. No stage speaks of one command alone.
-use Rattle.std.specs.Prelude.{ℕ, ◌≡◌, ◌⊎◌, List, Option, Some, None, Result, Ok, Err}
+use Rattle.std.specs.Prelude.{ℕ, ◌≡◌, ◌⊎◌, List, Some, None, Result, Ok, Err}
 use Rattle.std.specs.Io.KnownBytes.{Appends}
 use Rattle.pac_io.specs.Rose.{Rose}
 use Rattle.pac_io.specs.Writing.{AppendsPrefix}
@@ -8,7 +8,7 @@ use Rattle.svd_model.specs.Steps.{Step}
 use Rattle.svd_rows.specs.Rows.{Row}
 use Rattle.pac_words.specs.Commands.{command_of}
 use Rattle.pac_words.specs.declared.command.Command.{Command}
-use Rattle.pac_fault.specs.Classes.{Class, no_memory, bad_words, bad_read, bad_write, long_file, bad_input, class_of}
+use Rattle.pac_fault.specs.Classes.{Class, no_memory, bad_words, bad_write, bad_input, class_of}
 use Rattle.pac_fault.specs.declared.fault.PacFault.{PacFault}
 use Rattle.pac_fault.specs.declared.fault.PacFault.TheVariants.{Memory, Words}
 use Rattle.pac_fault.specs.declared.fault.WordsFault.TheVariants.{Clap}

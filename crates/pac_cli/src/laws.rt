@@ -1,6 +1,7 @@
-ghost use Rattle.std.specs.Prelude.{ℕ, List, Some, ◌≡◌};
-ghost use Rattle.pac_cli.specs.Answers.{Answer, Decides, IsAnswer};
+ghost use Rattle.std.specs.Prelude.{ℕ, List, Option, None, Some, ◌≡◌};
+ghost use Rattle.pac_cli.specs.Answers.{Answer, Decides, IsAnswer, no_command, refused};
 ghost use Rattle.pac_inputs.specs.Gathering.{FileMap};
+ghost use Rattle.pac_words.specs.Commands.{command_of};
 ghost use Rattle.pac_words.specs.declared.command.Command.{Command};
 
 /// The words and the files decide at most one answer.
@@ -11,4 +12,9 @@ pub fn one_answer()
 /// A command and its inputs decide at most one answer.
 pub fn one_decision()
     ensures { (command : Command) (inputs : List (List ℕ)) (one other : Answer) → Decides command inputs one → Decides command inputs other → one ≡ other }
+{}
+
+/// Only words that ask for no command are refused as such.
+pub fn refused_words()
+    ensures { (words : List (List ℕ)) (told : Option FileMap) → IsAnswer words told (refused no_command) → command_of words ≡ None }
 {}

@@ -12,6 +12,6 @@ mod resolving;
 mod run;
 mod telling;
 
-pub use laws::{one_answer, one_decision};
+pub use laws::{one_answer, one_decision, refused_words};
 pub use outcome::{Outcome, Told};
 pub use run::run_pac;

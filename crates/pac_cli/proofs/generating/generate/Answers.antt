@@ -1,4 +1,3 @@
-use Rattle.std.proofs.Common.{ℕ, List}
 use Rattle.std.proofs.lemmas.Result.{err_from_is_err_and}
 use Rattle.frag_tree.specs.Crates.{printed}
 use Rattle.frag_tree.specs.Trees.{crate_tree}
