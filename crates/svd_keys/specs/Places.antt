@@ -1,6 +1,6 @@
 -- Where a field lies (CMSIS-SVD 1.3): by `bitRange`, by `lsb` with `msb`, or by `bitOffset` with `bitWidth`; the first of these forms that
 -- stands counts, and the others are held to numbers alone.
-use Rattle.std.specs.Prelude.{ℕ, ◌==◌, nat_le, nat_lt, List, [], ◌++◌, Bool, false, ◌&&◌, if◌then◌else◌, is_some, Option, Some, None, unwrap_or}
+use Rattle.std.specs.Prelude.{ℕ, ◌==◌, nat_le, nat_lt, List, [], ◌++◌, Bool, false, ◌&&◌, if◌then◌else◌, Option, Some, None, unwrap_or}
 use Rattle.svd_schema.specs.declared.key.Key.TheVariants as key
 use Rattle.svd_schema.specs.Names.{key_name}
 use Rattle.svd_values.specs.declared.place.Place.{Place}
@@ -56,16 +56,11 @@ unfoldable pub place_from : Option ℕ → Option ℕ → Place
 place_from (Some low) (Some high) = if nat_le low high then place_between high low else no_place
 place_from _ _ = no_place
 
--- a width that isn't stated is the source's for a derived field, else 1
-unfoldable pub width_of : Bool → Option ℕ → Option ℕ
-width_of derived (Some width) = Some width
-width_of derived None = if derived then None else Some 1
-
--- where a field lies, by the values of its keys
+-- where a field lies, by the values of its keys; a `bitWidth` that isn't stated is no part of it
 unfoldable pub place_with : Option Place → Option ℕ → Option ℕ → Option ℕ → Option ℕ → Tree → Place
 place_with range low high offset width tree =
     if states key.BitRange tree then unwrap_or range no_place
-    else (if has_ends tree then place_from low high else record { offset = offset; width = width_of (is_some tree.0.source) width })
+    else (if has_ends tree then place_from low high else record { offset = offset; width = width })
 
 -- where a field lies
 unfoldable pub place_of : Tree → Place

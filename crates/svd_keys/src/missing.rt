@@ -84,7 +84,7 @@ fn either(one: bool, other: bool) -> bool
 }
 
 /// Whether the element states from which it is derived.
-pub(crate) fn is_derived(element: &Element) -> bool
+fn is_derived(element: &Element) -> bool
     ensures { result ≡ is_some (element_of element.now).0.source }
 {
     element.source.is_some()

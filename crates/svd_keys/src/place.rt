@@ -1,13 +1,13 @@
 ghost use Rattle.std.specs.Prelude.{◌≡◌};
 ghost use Rattle.svd_keys.specs.Children.{child, when};
 ghost use Rattle.svd_keys.specs.Earliest.{least};
-ghost use Rattle.svd_keys.specs.Places.{no_place, has_ends, falls, is_zero, bad_place, form_faults, place_faults, place_from, width_of, place_with, place_of};
+ghost use Rattle.svd_keys.specs.Places.{no_place, has_ends, falls, is_zero, bad_place, form_faults, place_faults, place_from, place_with, place_of};
 ghost use Rattle.svd_schema.specs.Names.{key_name};
 ghost use Rattle.svd_text.specs.Views.{element_of};
 
 use crate::child::child;
 use crate::fault::{BadKind, PlacedFault, earliest};
-use crate::missing::{is_derived, states};
+use crate::missing::states;
 use crate::read::{Read, bad_where, number_key, range_key};
 use svd_schema::Key;
 use svd_text::Element;
@@ -111,17 +111,6 @@ fn widened(number: Option<u64>) -> Option<u128>
     }
 }
 
-// The width of a field that states no end: 1 where it isn't derived.
-#[tactic(auto, unfolding(crate::specs::Places::width_of))]
-fn width_of(derived: bool, width: Option<u64>) -> Option<u128>
-    ensures { result ≡ width_of derived width }
-{
-    match width {
-        Some(width) => Some(u128::from(width)),
-        None => { if derived { None } else { Some(1) } }
-    }
-}
-
 // Where a field lies, by the values of its keys.
 #[tactic(auto, unfolding(crate::specs::Places::place_with))]
 fn place_with(
@@ -145,7 +134,7 @@ fn place_with(
     }
     Place {
         offset: widened(offset),
-        width: width_of(is_derived(element), width),
+        width: widened(width),
     }
 }
 

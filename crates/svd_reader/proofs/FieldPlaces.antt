@@ -23,7 +23,7 @@ use Rattle.svd_keys.specs.Forms.{number_of, range_of, path_of, access_of}
 use Rattle.svd_keys.specs.KeysOf.{derived_of, keys_of}
 use Rattle.svd_keys.specs.Missing.{states, lack_key, missing, missing_ends, missing_place, missing_of, missing_faults}
 use Rattle.svd_keys.specs.OwnFaults.{bad_source, source_faults, named_faults, name_faults, dim_faults, effect_faults, row_faults, own_faults}
-use Rattle.svd_keys.specs.Places.{no_place, has_ends, falls, is_zero, bad_place, form_faults, place_faults, place_from, width_of, place_with, place_of}
+use Rattle.svd_keys.specs.Places.{no_place, has_ends, falls, is_zero, bad_place, form_faults, place_faults, place_from, place_with, place_of}
 use Rattle.svd_keys.specs.Texts.{value_text}
 use Rattle.svd_keys.specs.Values.{value_of, bad_value, bad_form, key_faults}
 use Rattle.svd_reader.specs.DescribedTree.{places_of}
@@ -132,7 +132,7 @@ place_stated tree good placed = cases (states key.BitRange tree) (has_ends tree)
         else bad_place (is_zero (value_of number_of key.BitWidth tree)) (child (key_name key.BitWidth) tree))) ≡ []
         → (n : ℕ) × ((if ranged then unwrap_or (value_of range_of key.BitRange tree) no_place
         else (if ended then place_from (value_of number_of key.Lsb tree) (value_of number_of key.Msb tree)
-        else record { offset = value_of number_of key.BitOffset tree; width = width_of (is_some tree.0.source) (value_of number_of key.BitWidth tree) })).offset ≡ Some n)
+        else record { offset = value_of number_of key.BitOffset tree; width = value_of number_of key.BitWidth tree })).offset ≡ Some n)
     cases true ended is_ranged is_ended some faults =
         let range = valued range_of bad.Place key.BitRange tree good.range is_ranged in
         let begins = each_some (λ (place : Place). (n : ℕ) × (place.offset ≡ Some n)) (value_of range_of key.BitRange tree) range.0 (each_value (λ (place : Place). (n : ℕ) × (place.offset ≡ Some n)) range_of range_begins key.BitRange tree) range.1 in

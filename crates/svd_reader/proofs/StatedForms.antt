@@ -29,7 +29,7 @@ use Rattle.svd_keys.specs.Children.{Tree, child}
 use Rattle.svd_keys.specs.Forms.{number_of, range_of, is_full_word, onto_first, parts_of, after_commas, words_of, index_of}
 use Rattle.svd_keys.specs.KeysOf.{dim_of, keys_of}
 use Rattle.svd_keys.specs.Missing.{states}
-use Rattle.svd_keys.specs.Places.{no_place, has_ends, place_from, width_of, place_with, place_of}
+use Rattle.svd_keys.specs.Places.{no_place, has_ends, place_from, place_with, place_of}
 use Rattle.svd_keys.specs.Texts.{value_text}
 use Rattle.svd_keys.specs.Values.{value_of}
 use Rattle.svd_reader.specs.DescribedTree.{places_of}
@@ -119,14 +119,12 @@ stated_ends (Some low) (Some high) each = rising (nat_le low high) refl
     rising true is = between_bounded high low each (leb-true low high is)
     rising false is = none_bounded
 
-stated_width : (derived : Bool) (width : Option ℕ) → Each (λ n. n < 2 ^ 64) width → Each (λ n. n ≤ 2 ^ 64) (width_of derived width)
-unfolding width_of
-stated_width derived (Some width) each = less width each
+stated_width : (width : Option ℕ) → Each (λ n. n < 2 ^ 64) width → Each (λ n. n ≤ 2 ^ 64) width
+stated_width (Some width) each = less width each
   where
     less : (n : ℕ) → n < 2 ^ 64 → n ≤ 2 ^ 64
     less n h = omega arith
-stated_width true None each = tt
-stated_width false None each = let one : 1 ≤ 2 ^ 64 = omega arith in one
+stated_width None each = tt
 
 pub place_bounded : (tree : Tree) → IsPlaceBounded (place_of tree)
 unfolding place_of place_with
@@ -134,12 +132,12 @@ place_bounded tree = cases (states key.BitRange tree) (has_ends tree)
   where
     cases : (ranged ended : Bool) → IsPlaceBounded (if ranged then unwrap_or (value_of range_of key.BitRange tree) no_place
         else (if ended then place_from (value_of number_of key.Lsb tree) (value_of number_of key.Msb tree)
-        else record { offset = value_of number_of key.BitOffset tree; width = width_of (is_some tree.0.source) (value_of number_of key.BitWidth tree) }))
+        else record { offset = value_of number_of key.BitOffset tree; width = value_of number_of key.BitWidth tree }))
     cases true ended = stated_range (value_of range_of key.BitRange tree) (each_value IsPlaceBounded range_of range_bounded key.BitRange tree)
     cases false true = stated_ends (value_of number_of key.Lsb tree) (value_of number_of key.Msb tree) (each_value (λ n. n < 2 ^ 64) number_of number_below key.Msb tree)
     cases false false = record {
       offset = each_value (λ n. n < 2 ^ 64) number_of number_below key.BitOffset tree;
-      width = stated_width (is_some tree.0.source) (value_of number_of key.BitWidth tree) (each_value (λ n. n < 2 ^ 64) number_of number_below key.BitWidth tree);
+      width = stated_width (value_of number_of key.BitWidth tree) (each_value (λ n. n < 2 ^ 64) number_of number_below key.BitWidth tree);
     }
 
 -- ---- indexes
