@@ -1,0 +1,228 @@
+"""Whether rustc, the support file and a crate text give the events that a description's registers give.
+
+    python3 agree.py [--program PAC] [--exec] [--edition YEAR] gallery FOLDER
+    python3 agree.py [--program PAC] [--exec] [--edition YEAR] random COUNT SEED
+
+Each case is a description and a script. Its crate text is what the program prints where it is built and accepts the
+description, and must be the text that crate_text.py prints; else it is the latter. Texts and scripts are compiled by
+rustc with support/generic.rs and run on its recording bus: with every answer 0, as memory, and with random answers; the
+events must be those of script.py, which reads the description alone. With --exec the program's `exec` must print the same.
+"""
+
+import argparse
+import pathlib
+import random
+import re
+import subprocess
+import sys
+import tempfile
+
+import crate_text
+import random_device
+import script
+from description import derive, read, slot, unfold
+
+HERE = pathlib.Path(__file__).resolve().parent
+SUPPORT = HERE.parent.parent / "support" / "generic.rs"
+EACH = 50
+
+MAIN = """
+pub mod generic;
+mod texts;
+mod runs;
+
+pub trait Said { fn line(&self) -> String; }
+macro_rules! said { ($($kind:ty)*) => { $(impl Said for $kind { fn line(&self) -> String { format!("say {self}") } })* } }
+said! { u8 u16 u32 u64 bool }
+
+/// Prints what was said, after what was done before.
+pub fn say(said: impl Said) { kept(); println!("{}", said.line()); }
+
+/// Prints the accesses since the last time.
+pub fn kept() { for access in generic::recording::take() { println!("{access}"); } }
+
+fn main() { runs::all(); }
+"""
+ALLOWED = "non_camel_case_types, non_snake_case, unused_imports, dead_code"
+
+
+class Case:
+    def __init__(self, name, description, text, statements, answers):
+        self.name, self.text, self.script = name, text, statements
+        self.device = unfold(derive(read(description)))
+        self.buses = [("zero", "zero"), ("memory", "memory"), ("answers", answers)]
+        self.expected = {}
+        for bus, of in self.buses:
+            lines, presets = script.events(self.device, statements, of)
+            self.expected[bus] = lines
+            self.presets = presets
+
+    def run(self, number):
+        """The Rust functions that run the script on each bus: its lines are Rust as they stand, but for the numbers of `say`."""
+        lines = re.sub(r"^(\s*say\s*\(\s*)([0-9][0-9a-fA-Fx_]*)", r"\1\2u64", self.script, flags=re.M)
+        slots = ", ".join(slot(peripheral) for peripheral in self.device.children)
+        functions = "#[allow(unused, non_snake_case)]\nfn script() {\n"
+        functions += f"let crate::texts::t{number}::Peripherals {{ {slots} }} = unsafe {{ steal() }};\n"
+        functions += f"{lines}crate::kept();\n}}\n\npub fn all() {{\n"
+        for bus, of in self.buses:
+            answers = {"zero": "Bus::Zero", "memory": "Bus::Memory"}.get(bus) or f"Bus::Answers(vec!{of})"
+            functions += f'println!("# {number} {bus}");\nrecording::start({answers});\n'
+            if bus == "memory":
+                functions += "".join(f"recording::preset({a:#x}, {w}, {v:#x});\n" for a, w, v in self.presets)
+            functions += "script();\n"
+        return "#[allow(unused_imports)]\nuse crate::say;\nuse crate::generic::{recording::{self, Bus}, steal};\n\n" + functions + "}\n"
+
+
+def build(folder, cases, edition):
+    """Compiles the cases, and gives rustc's messages and whether it ended well."""
+    (folder / "texts").mkdir(exist_ok=True)
+    (folder / "runs").mkdir(exist_ok=True)
+    (folder / "generic.rs").write_bytes(SUPPORT.read_bytes())
+    (folder / "main.rs").write_text(MAIN)
+    texts, runs, calls = "", "", ""
+    for number, case in cases.items():
+        (folder / "texts" / f"t{number}.rs").write_text(case.text)
+        (folder / "runs" / f"t{number}.rs").write_text(case.run(number))
+        texts += f"#[allow({ALLOWED})]\npub mod t{number};\n"
+        runs += f"mod t{number};\n"
+        calls += f"t{number}::all();\n"
+    (folder / "texts" / "mod.rs").write_text(texts)
+    (folder / "runs" / "mod.rs").write_text(runs + f"\npub fn all() {{\n{calls}}}\n")
+    done = subprocess.run(
+        ["rustc", "--edition", edition, "-D", "warnings", "-C", "debuginfo=0", "--cfg", 'feature="recording"',
+         "-o", folder / "run", folder / "main.rs"], capture_output=True, text=True)
+    return done.stderr, done.returncode == 0
+
+
+def first_error(messages):
+    """rustc's first message, whole."""
+    return re.split(r"\n\n", messages, maxsplit=1)[0]
+
+
+def rustc_agrees(cases, edition):
+    """The faults of the cases, as (name, what)."""
+    faults, left = [], dict(enumerate(cases))
+    with tempfile.TemporaryDirectory() as name:
+        folder = pathlib.Path(name)
+        while left:
+            messages, well = build(folder, left, edition)
+            if well:
+                break
+            wrong = {int(n) for n in re.findall(r"--> \S*?(?:texts|runs)/t(\d+)\.rs", messages)} & set(left)
+            if not wrong:
+                return faults + [("all", first_error(messages))]
+            for number in wrong:
+                parts = [part for part in messages.split("\n\n") if re.search(rf"/t{number}\.rs", part)]
+                faults.append((left.pop(number).name, "rustc: " + (parts or [first_error(messages)])[0]))
+        if not left:
+            return faults
+        done = subprocess.run([folder / "run"], capture_output=True, text=True)
+        printed = {}
+        for line in done.stdout.splitlines():
+            if line.startswith("# "):
+                here = printed.setdefault(line[2:], [])
+            else:
+                here.append(line)
+        for number, case in left.items():
+            for bus, _ in case.buses:
+                got = printed.get(f"{number} {bus}")
+                if got != case.expected[bus]:
+                    faults.append((case.name, f"on the bus {bus} rustc gives\n" + "\n".join(got or [done.stderr])
+                                   + "\nand the registers give\n" + "\n".join(case.expected[bus])))
+                    break
+    return faults
+
+
+class Program:
+    def __init__(self, path, with_exec):
+        self.path, self.with_exec = path, with_exec
+
+    def call(self, folder, *words, **files):
+        for name, content in files.items():
+            (folder / name).write_text(content)
+        return subprocess.run([self.path, *words], cwd=folder, capture_output=True, text=True)
+
+    def printed(self, description):
+        """What `generate` prints, or None and its line."""
+        with tempfile.TemporaryDirectory() as name:
+            done = self.call(pathlib.Path(name), "generate", "d", d=description)
+        return (done.stdout, None) if done.returncode == 0 else (None, done.stderr.strip())
+
+    def faults(self, case):
+        """Where `exec` prints other events."""
+        if not self.with_exec:
+            return
+        with tempfile.TemporaryDirectory() as name:
+            for bus in ("zero", "memory"):
+                done = self.call(pathlib.Path(name), "exec", "c", "s", "--bus", bus, c=case.text, s=case.script)
+                if done.returncode != 0 or done.stdout.splitlines() != case.expected[bus]:
+                    yield case.name, f"exec on the bus {bus}: status {done.returncode}\n{done.stdout}{done.stderr}"
+
+
+def text_of(name, description, program, faults, notes):
+    """The crate text of a description: the program's where there is one."""
+    own = crate_text.printed(unfold(derive(read(description))))
+    if program is None:
+        return own
+    printed, line = program.printed(description)
+    if printed is None and line.endswith("not built yet"):
+        notes.append(f"{name}: {line.removeprefix('pac: ')}")
+        return own
+    if printed is None:
+        faults.append((name, line))
+        return own
+    if printed != own:
+        faults.append((name, "generate prints another text than crate_text.py"))
+    return printed
+
+
+def gallery(folder, program, faults, notes):
+    for path in sorted(pathlib.Path(folder).glob("*.svd")):
+        text = path.with_suffix(".rs").read_text()
+        statements = path.with_suffix(".script").read_text()
+        rng = random.Random(path.stem)
+        case = Case(path.stem, path.read_text(), text, statements, [rng.getrandbits(64) for _ in range(40)])
+        if text_of(path.stem, path.read_text(), program, faults, notes) != text:
+            faults.append((path.stem, "its crate text is another"))
+        events = path.with_suffix(".events").read_text().splitlines()
+        if events != case.expected["memory"]:
+            faults.append((path.stem, "its events are others:\n" + "\n".join(case.expected["memory"])))
+        yield case
+
+
+def at_random(count, seed, program, faults, notes):
+    for k in range(count):
+        rng = random.Random(seed + k)
+        description, statements = random_device.case(rng, deriving=k % 2 == 1)
+        name = f"random {seed + k}"
+        text = text_of(name, description, program, faults, notes)
+        yield Case(name, description, text, statements, [rng.getrandbits(64) for _ in range(12)])
+
+
+def main():
+    parser = argparse.ArgumentParser()
+    parser.add_argument("--program")
+    parser.add_argument("--exec", action="store_true")
+    parser.add_argument("--edition", default="2021")
+    parser.add_argument("what", choices=["gallery", "random", "show"])
+    parser.add_argument("words", nargs="*")
+    words = parser.parse_args()
+    program = Program(pathlib.Path(words.program).resolve(), words.exec) if words.program else None
+    faults, notes, cases = [], [], []
+    if words.what == "gallery":
+        cases = list(gallery(words.words[0], program, faults, notes))
+    else:
+        cases = list(at_random(int(words.words[0]), int(words.words[1]), program, faults, notes))
+    for first in range(0, len(cases), EACH):
+        faults += rustc_agrees(cases[first:first + EACH], words.edition)
+    for case in cases if program else []:
+        faults += program.faults(case)
+    for name, what in faults:
+        print(f"{name}: {what}", file=sys.stderr)
+    print(f"{len(cases)} agree" if not faults else f"{len({name for name, _ in faults})} of {len(cases)} don't agree")
+    for note in notes if words.what == "gallery" else notes[:1]:
+        print(f"not by the program's text: {note}" + (f", and {len(notes) - 1} more" if words.what != "gallery" and len(notes) > 1 else ""))
+    sys.exit(bool(faults))
+
+
+main()
