@@ -36,6 +36,7 @@
 
 #![deny(unsafe_op_in_unsafe_fn)]
 #![warn(missing_docs)]
+#![allow(dead_code, reason = "a text may have no use for some of it")]
 
 use core::marker::PhantomData;
 use core::ops::{BitAnd, BitOr, Deref, Not, Shl};
@@ -71,7 +72,6 @@ use recording as bus;
 ///
 /// Each thread has its own. Nothing is kept before [`start`](recording::start), and an access before it panics.
 #[cfg(any(test, feature = "recording"))]
-#[allow(dead_code, reason = "a package's tests call what they want of it")]
 pub mod recording {
     extern crate std;
 
@@ -566,7 +566,6 @@ macro_rules! bit_writers {
 
         impl<'a, S: RegisterSpec, F> $name<'a, S, F> {
             #[inline(always)]
-            #[allow(dead_code, reason = "a text may have no such writer")]
             pub(crate) fn new(w: &'a mut W<S>, offset: u32) -> Self {
                 $name { w, offset, field: PhantomData }
             }
@@ -632,7 +631,6 @@ bit_writers! {
 ///
 /// Only a crate text calls this and the next: what they give is what the text says that it is.
 #[inline(always)]
-#[allow(dead_code, reason = "a text may have no such accessor")]
 pub(crate) fn at<B, T>(block: &B, offset: usize) -> &T {
     let address = core::ptr::from_ref(block) as usize + offset;
     // SAFETY: the text says that this stands here, and is never null: the block isn't.
@@ -642,7 +640,6 @@ pub(crate) fn at<B, T>(block: &B, offset: usize) -> &T {
 /// Member `n` of `count` that stand `stride` bytes apart, the first `offset` bytes after the start of a block. Panics
 /// where there is none.
 #[inline(always)]
-#[allow(dead_code, reason = "a text may have no such accessor")]
 pub(crate) fn at_index<B, T>(block: &B, offset: usize, stride: usize, count: usize, n: usize) -> &T {
     assert!(n < count, "member {n} of {count}");
     at(block, offset + stride * n)
@@ -651,7 +648,6 @@ pub(crate) fn at_index<B, T>(block: &B, offset: usize, stride: usize, count: usi
 /// The lowest bit of member `n` of `count` that stand `step` bits apart, the first at bit `offset`. Panics where there is
 /// none.
 #[inline(always)]
-#[allow(dead_code, reason = "a text of version 1 has no fields with an index")]
 pub(crate) fn at_bit(offset: usize, step: usize, count: usize, n: usize) -> u32 {
     assert!(n < count, "member {n} of {count}");
     (offset + step * n) as u32

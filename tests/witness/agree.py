@@ -2,17 +2,20 @@
 
     python3 agree.py [--program PAC] [--exec] [--edition YEAR] gallery FOLDER
     python3 agree.py [--program PAC] [--exec] [--edition YEAR] random COUNT SEED
+    python3 agree.py [--edition YEAR] known
 
-Each case is a description and a script. Its crate text is what the program prints where it is built and accepts the
-description, and must be the text that crate_text.py prints; else it is the latter. Texts and scripts are compiled by
-rustc with support/generic.rs and run on its recording bus: with every answer 0, as memory, and with random answers; the
-events must be those of script.py, which reads the description alone. With --exec the program's `exec` must print the same.
+Each case is a description and a script. With --program its crate text is what that program prints, and must be the text that
+crate_text.py prints; without, and where the program doesn't print such a description yet, it is the latter. Texts and scripts
+are compiled by rustc with support/generic.rs and run on its recording bus: with every answer 0, as memory, and with random
+answers; the events must be those of script.py, which reads the description and no text. With --exec the program's `exec`
+must print them too. `known` tries what rustc is known to refuse.
 """
 
 import argparse
 import pathlib
 import random
 import re
+import shutil
 import subprocess
 import sys
 import tempfile
@@ -20,11 +23,17 @@ import tempfile
 import crate_text
 import random_device
 import script
-from description import derive, read, slot, unfold
+from description import derive, read, unfold
 
 HERE = pathlib.Path(__file__).resolve().parent
 SUPPORT = HERE.parent.parent / "support" / "generic.rs"
+# So many cases are compiled at once.
 EACH = 50
+# What the program doesn't print yet, and by what a case shows it; an entry goes with the work that builds it.
+UNPRINTED = {
+    "derivedFrom": lambda description, text: "derivedFrom" in description,
+    "arrays of fields": lambda description, text: text.startswith("pub const CRATE_TEXT"),
+}
 
 MAIN = """
 pub mod generic;
@@ -58,11 +67,12 @@ class Case:
             self.presets = presets
 
     def run(self, number):
-        """The Rust functions that run the script on each bus: its lines are Rust as they stand, but for the numbers of `say`."""
+        """The Rust functions that run the script on each bus. Its lines are Rust as they stand, but that a slot is a field of
+        `device` and that the numbers of `say` have a type."""
         lines = re.sub(r"^(\s*say\s*\(\s*)([0-9][0-9a-fA-Fx_]*)", r"\1\2u64", self.script, flags=re.M)
-        slots = ", ".join(slot(peripheral) for peripheral in self.device.children)
-        functions = "#[allow(unused, non_snake_case)]\nfn script() {\n"
-        functions += f"let crate::texts::t{number}::Peripherals {{ {slots} }} = unsafe {{ steal() }};\n"
+        lines = re.sub(r"^(\s*(?:let\s+\w+\s*=\s*)?)(\w+\s*\.)", r"\1device.\2", lines, flags=re.M)
+        functions = "#[allow(unused)]\nfn script() {\n"
+        functions += f"let device = unsafe {{ steal::<crate::texts::t{number}::Peripherals>() }};\n"
         functions += f"{lines}crate::kept();\n}}\n\npub fn all() {{\n"
         for bus, of in self.buses:
             answers = {"zero": "Bus::Zero", "memory": "Bus::Memory"}.get(bus) or f"Bus::Answers(vec!{of})"
@@ -70,7 +80,8 @@ class Case:
             if bus == "memory":
                 functions += "".join(f"recording::preset({a:#x}, {w}, {v:#x});\n" for a, w, v in self.presets)
             functions += "script();\n"
-        return "#[allow(unused_imports)]\nuse crate::say;\nuse crate::generic::{recording::{self, Bus}, steal};\n\n" + functions + "}\n"
+        return ("#[allow(unused_imports)]\nuse crate::say;\nuse crate::generic::{recording::{self, Bus}, steal};\n\n"
+                + functions + "}\n")
 
 
 def build(folder, cases, edition):
@@ -159,44 +170,68 @@ class Program:
                     yield case.name, f"exec on the bus {bus}: status {done.returncode}\n{done.stdout}{done.stderr}"
 
 
-def text_of(name, description, program, faults, notes):
-    """The crate text of a description: the program's where there is one."""
+def text_of(name, description, program, faults):
+    """The crate text of a description: the program's, where it prints one."""
     own = crate_text.printed(unfold(derive(read(description))))
-    if program is None:
+    if program is None or any(shows(description, own) for shows in UNPRINTED.values()):
         return own
     printed, line = program.printed(description)
-    if printed is None and line.endswith("not built yet"):
-        notes.append(f"{name}: {line.removeprefix('pac: ')}")
-        return own
-    if printed is None:
-        faults.append((name, line))
-        return own
     if printed != own:
-        faults.append((name, "generate prints another text than crate_text.py"))
-    return printed
+        faults.append((name, line or "generate prints another text than crate_text.py"))
+    return printed or own
 
 
-def gallery(folder, program, faults, notes):
+def gallery(folder, program, faults):
     for path in sorted(pathlib.Path(folder).glob("*.svd")):
-        text = path.with_suffix(".rs").read_text()
-        statements = path.with_suffix(".script").read_text()
+        description, statements = path.read_text(), path.with_suffix(".script").read_text()
         rng = random.Random(path.stem)
-        case = Case(path.stem, path.read_text(), text, statements, [rng.getrandbits(64) for _ in range(40)])
-        if text_of(path.stem, path.read_text(), program, faults, notes) != text:
+        text = text_of(path.stem, description, program, faults)
+        case = Case(path.stem, description, text, statements, [rng.getrandbits(64) for _ in range(40)])
+        if path.with_suffix(".rs").read_text() != text:
             faults.append((path.stem, "its crate text is another"))
-        events = path.with_suffix(".events").read_text().splitlines()
-        if events != case.expected["memory"]:
+        if path.with_suffix(".events").read_text().splitlines() != case.expected["memory"]:
             faults.append((path.stem, "its events are others:\n" + "\n".join(case.expected["memory"])))
         yield case
 
 
-def at_random(count, seed, program, faults, notes):
+def at_random(count, seed, program, faults):
     for k in range(count):
         rng = random.Random(seed + k)
-        description, statements = random_device.case(rng, deriving=k % 2 == 1)
+        description, statements = random_device.case(rng, deriving=k % 2 == 1, arrays=k % 4 > 1)
         name = f"random {seed + k}"
-        text = text_of(name, description, program, faults, notes)
+        text = text_of(name, description, program, faults)
         yield Case(name, description, text, statements, [rng.getrandbits(64) for _ in range(12)])
+
+
+def known(edition):
+    """The faults of what rustc is known to refuse although the text fits, and of what stands just beside it."""
+    fields = "".join(f"<field><name>{name}</name><bitOffset>{bit}</bitOffset></field>"
+                     for bit, name in enumerate(("INTO", "TRY_INTO")))
+
+    def agrees(base, registers, statements):
+        made = "".join(f"<register><name>{name}</name><addressOffset>{offset}</addressOffset><fields>{fields}</fields>"
+                       "</register>" for name, offset in registers.items())
+        description = (f"<device><name>D</name><peripherals><peripheral><name>T</name><baseAddress>{base}</baseAddress>"
+                       f"<registers>{made}</registers></peripheral></peripherals></device>")
+        text = crate_text.printed(unfold(derive(read(description))))
+        return not rustc_agrees([Case("known", description, text, statements, [3])], edition)
+
+    into, plain = {"INTO": 0, "TRY_INTO": 4}, {"A": 4}
+    rows = [
+        ("a block of 2^61 bytes", False, 8, {"A": 0, "B": 2**61 - 4}, "T.b().reset();"),
+        ("a block of 2^61 - 4 bytes", True, 8, {"A": 0, "B": 2**61 - 8}, "T.b().reset();"),
+        ("a register INTO under a slot", False, 8, into, "T.into().reset();"),
+        ("a register TRY_INTO under a slot", False, 8, into, "T.try_into().reset();"),
+        ("a field INTO of a bound name", False, 8, plain, "let a = T.a().read();\nsay(a.into().bit());"),
+        ("a field TRY_INTO of a bound name", False, 8, plain, "let a = T.a().read();\nsay(a.try_into().bit());"),
+        ("fields INTO and TRY_INTO of r and w", True, 8, plain,
+         "T.a().modify(|r, w| w.into().bit(!r.into().bit()).try_into().bit(r.try_into().bit()));"),
+        ("a block at address 0", False, 0, plain, "T.a().reset();"),
+        ("a block at address 4", True, 4, plain, "T.a().reset();"),
+    ]
+    for name, wanted, base, registers, statements in rows:
+        if agrees(base, registers, statements) != wanted:
+            yield name, "rustc doesn't agree" if wanted else "rustc agrees"
 
 
 def main():
@@ -204,25 +239,29 @@ def main():
     parser.add_argument("--program")
     parser.add_argument("--exec", action="store_true")
     parser.add_argument("--edition", default="2021")
-    parser.add_argument("what", choices=["gallery", "random", "show"])
+    parser.add_argument("what", choices=["gallery", "random", "known"])
     parser.add_argument("words", nargs="*")
     words = parser.parse_args()
     program = Program(pathlib.Path(words.program).resolve(), words.exec) if words.program else None
-    faults, notes, cases = [], [], []
+    faults, cases = [], []
     if words.what == "gallery":
-        cases = list(gallery(words.words[0], program, faults, notes))
+        cases = list(gallery(words.words[0], program, faults))
+    elif words.what == "random":
+        cases = list(at_random(int(words.words[0]), int(words.words[1]), program, faults))
+    if shutil.which("rustc") is None:
+        print("rustc isn't there: texts and events were compared, and nothing was compiled")
     else:
-        cases = list(at_random(int(words.words[0]), int(words.words[1]), program, faults, notes))
-    for first in range(0, len(cases), EACH):
-        faults += rustc_agrees(cases[first:first + EACH], words.edition)
+        for first in range(0, len(cases), EACH):
+            faults += rustc_agrees(cases[first:first + EACH], words.edition)
+        faults += known(words.edition) if words.what == "known" else []
     for case in cases if program else []:
         faults += program.faults(case)
     for name, what in faults:
         print(f"{name}: {what}", file=sys.stderr)
-    print(f"{len(cases)} agree" if not faults else f"{len({name for name, _ in faults})} of {len(cases)} don't agree")
-    for note in notes if words.what == "gallery" else notes[:1]:
-        print(f"not by the program's text: {note}" + (f", and {len(notes) - 1} more" if words.what != "gallery" and len(notes) > 1 else ""))
+    if words.what == "random" and not faults:
+        print(f"{len(cases)} agree")
     sys.exit(bool(faults))
 
 
-main()
+if __name__ == "__main__":
+    main()

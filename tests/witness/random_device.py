@@ -25,8 +25,8 @@ def number(rng, value):
 
 
 class Maker:
-    def __init__(self, rng, deriving):
-        self.rng, self.deriving = rng, deriving
+    def __init__(self, rng, deriving, arrays):
+        self.rng, self.deriving, self.marks = rng, deriving, ["", "", "", "%s"] + ["[%s]"] * arrays
 
     def maybe(self, chance):
         return self.rng.random() < chance
@@ -110,8 +110,8 @@ class Maker:
                     source, narrowest = self.rng.choice(sources)
                     if offset % (narrowest // 8) == 0 and "%s" not in source:
                         unit, attribute, content = narrowest, f' derivedFrom="{source}"', self.props(unit)
-                        if mark and any(step % narrowest for step in (1,)):
-                            # The step of a derived array keeps the source's alignment.
+                        if mark:
+                            # The members of a derived array or list are as aligned as the source's.
                             keys = tag("name", name) + tag("addressOffset", offset) + tag("dim", 2) + tag(
                                 "dimIncrement", narrowest // 8 * self.rng.randint(0, 3))
                         made += f"<register{attribute}>{keys}{content}</register>"
@@ -135,7 +135,7 @@ class Maker:
             wide = 1 if self.maybe(0.4) else self.rng.randint(1, width - offset)
             if self.maybe(0.05):
                 offset, wide = 0, width
-            mark = self.rng.choice(["", "", "", "%s", "[%s]"])
+            mark = self.rng.choice(self.marks)
             name = self.name("field", used, mark)
             keys = tag("name", name)
             if mark:
@@ -285,7 +285,7 @@ class Script:
         return text if self.rng.random() < 0.7 else f"{text} as u{self.rng.choice([8, 16, 32, 64])}"
 
 
-def case(rng, deriving):
-    """A description's text and a script's."""
-    text = Maker(rng, deriving).device()
+def case(rng, deriving, arrays):
+    """A description's text and a script's; `deriving` lets elements be derived, `arrays` lets fields be arrays."""
+    text = Maker(rng, deriving, arrays).device()
     return text, Script(rng, unfold(derive(read(text)))).text(12)

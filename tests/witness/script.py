@@ -15,9 +15,9 @@ class Bus:
     def __init__(self, answers):
         self.answers, self.bytes, self.lines, self.reads, self.presets = answers, {}, [], 0, {}
 
-    def preset(self, address, it):
-        if address not in self.presets:
-            self.presets[address] = (it.width, it.reset)
+    def preset(self, path, address, it):
+        if path not in self.presets:
+            self.presets[path] = (address, it.width, it.reset)
             self.put(address, it.width, it.reset)
 
     def put(self, address, width, value):
@@ -64,24 +64,24 @@ class Words:
         return name, index
 
 
-def events(device, script, answers, presets=True):
-    """The lines that the script prints, and the presets as (address, width, word) in the order of first calls."""
+def events(device, script, answers):
+    """The lines that the script prints, and the presets as (address, width, word): a register's reset word, once, in the order
+    of first calls. They are made before the script runs."""
     bus = Bus(answers)
     statements = [line for line in script.splitlines() if WORD.findall(line.split("//")[0])]
-    # Presets are made before the script runs.
     for line in statements:
         words = Words(line)
         if words.peek() == "say":
             continue
         if words.peek() == "let":
             words.next = 3
+        first = words.next
         address, it = register(device, words)
-        if presets:
-            bus.preset(address, it)
+        bus.preset(tuple(words.words[first:words.next]), address, it)
     bound = {}
     for line in statements:
         statement(device, Words(line), bound, bus)
-    return bus.lines, [(address, *preset) for address, preset in bus.presets.items()]
+    return bus.lines, list(bus.presets.values())
 
 
 def register(device, words):
