@@ -30,7 +30,7 @@
 //! which a 0 would (`ZERO_TO_MODIFY`): so a flag that is cleared by writing a one stays unless its writer is called.
 //!
 //! Where the package has the feature `recording`, and in its own unit tests, no memory is touched: every access goes to
-//! the bus of [`recording`], which answers it and keeps it. The package declares the feature: `recording = []`.
+//! the bus of its module `recording`, which answers it and keeps it. The package declares the feature: `recording = []`.
 //!
 //! What a text means is proved over a fragment of Rust; this file and what rustc makes of both are tested.
 
@@ -107,10 +107,22 @@ pub mod recording {
         /// As a line of events: `read 0x40000000 32 0x00000003`.
         fn fmt(&self, f: &mut fmt::Formatter<'_>) -> fmt::Result {
             let (name, address, width, value) = match *self {
-                Access::Read { address, width, value } => ("read", address, width, value),
-                Access::Write { address, width, value } => ("write", address, width, value),
+                Access::Read {
+                    address,
+                    width,
+                    value,
+                } => ("read", address, width, value),
+                Access::Write {
+                    address,
+                    width,
+                    value,
+                } => ("write", address, width, value),
             };
-            write!(f, "{name} 0x{address:08x} {width} 0x{value:0digits$x}", digits = width as usize / 4)
+            write!(
+                f,
+                "{name} 0x{address:08x} {width} 0x{value:0digits$x}",
+                digits = width as usize / 4
+            )
         }
     }
 
@@ -156,12 +168,21 @@ pub mod recording {
     }
 
     fn with<T>(f: impl FnOnce(&mut Recorder) -> T) -> T {
-        RECORDER.with_borrow_mut(|recorder| f(recorder.as_mut().expect("a register is called before recording::start")))
+        RECORDER.with_borrow_mut(|recorder| {
+            f(recorder
+                .as_mut()
+                .expect("a register is called before recording::start"))
+        })
     }
 
     /// Starts to record on this thread, with nothing kept and every byte 0.
     pub fn start(bus: Bus) {
-        RECORDER.set(Some(Recorder { bus, bytes: BTreeMap::new(), reads: 0, kept: Vec::new() }));
+        RECORDER.set(Some(Recorder {
+            bus,
+            bytes: BTreeMap::new(),
+            reads: 0,
+            kept: Vec::new(),
+        }));
     }
 
     /// Sets what [`Bus::Memory`] holds at an address, such as a reset word or a flag that the device raises.
@@ -184,7 +205,11 @@ pub mod recording {
         U::cut(with(|recorder| {
             let value = recorder.answer(address, width);
             recorder.reads += 1;
-            recorder.kept.push(Access::Read { address, width, value });
+            recorder.kept.push(Access::Read {
+                address,
+                width,
+                value,
+            });
             value
         }))
     }
@@ -198,7 +223,11 @@ pub mod recording {
         let (address, width, value) = (place as usize as u64, U::BITS, word.to_u64());
         with(|recorder| {
             recorder.put(address, width, value);
-            recorder.kept.push(Access::Write { address, width, value });
+            recorder.kept.push(Access::Write {
+                address,
+                width,
+                value,
+            });
         });
     }
 }
@@ -342,8 +371,8 @@ impl<B, const ADDRESS: usize> Deref for Periph<B, ADDRESS> {
 #[inline(always)]
 pub const unsafe fn steal<P>() -> P {
     const { assert!(size_of::<P>() == 0, "only handles can be stolen") };
-    // SAFETY: a struct of handles has no bytes.
-    unsafe { core::mem::MaybeUninit::uninit().assume_init() }
+    // SAFETY: a struct of handles has no bytes, so any aligned place holds one.
+    unsafe { core::ptr::NonNull::<P>::dangling().as_ptr().read() }
 }
 
 /// A register, in its place in a block. Its size and its alignment are its width.
@@ -412,7 +441,12 @@ impl<S: Writable + Resettable> Reg<S> {
     where
         F: FnOnce(&mut W<S>) -> &mut W<S>,
     {
-        self.store(f(&mut W { bits: harmless::<S>(S::RESET_VALUE) }).bits);
+        self.store(
+            f(&mut W {
+                bits: harmless::<S>(S::RESET_VALUE),
+            })
+            .bits,
+        );
     }
 
     /// Writes the register, once. Bits that aren't called are 0, also where a zero acts.
@@ -444,7 +478,15 @@ impl<S: Readable + Writable> Reg<S> {
         F: for<'w> FnOnce(&R<S>, &'w mut W<S>) -> &'w mut W<S>,
     {
         let bits = self.load();
-        self.store(f(&R { bits }, &mut W { bits: harmless::<S>(bits) }).bits);
+        self.store(
+            f(
+                &R { bits },
+                &mut W {
+                    bits: harmless::<S>(bits),
+                },
+            )
+            .bits,
+        );
     }
 }
 
@@ -494,7 +536,10 @@ pub struct BitReader<F> {
 impl<F> BitReader<F> {
     #[inline(always)]
     pub(crate) fn new(bit: bool) -> Self {
-        BitReader { bit, field: PhantomData }
+        BitReader {
+            bit,
+            field: PhantomData,
+        }
     }
 
     /// The bit.
@@ -525,7 +570,10 @@ pub struct FieldReader<F, V> {
 impl<F, V: Word> FieldReader<F, V> {
     #[inline(always)]
     pub(crate) fn new(bits: V) -> Self {
-        FieldReader { bits, field: PhantomData }
+        FieldReader {
+            bits,
+            field: PhantomData,
+        }
     }
 
     /// The field's value.
@@ -545,7 +593,11 @@ pub struct FieldWriter<'a, S: RegisterSpec, F, V, const WIDTH: u32> {
 impl<'a, S: RegisterSpec, F, V: Word, const WIDTH: u32> FieldWriter<'a, S, F, V, WIDTH> {
     #[inline(always)]
     pub(crate) fn new(w: &'a mut W<S>, offset: u32) -> Self {
-        FieldWriter { w, offset, field: PhantomData }
+        FieldWriter {
+            w,
+            offset,
+            field: PhantomData,
+        }
     }
 
     /// Sets the field to the lowest `WIDTH` bits of a value.
@@ -640,7 +692,13 @@ pub(crate) fn at<B, T>(block: &B, offset: usize) -> &T {
 /// Member `n` of `count` that stand `stride` bytes apart, the first `offset` bytes after the start of a block. Panics
 /// where there is none.
 #[inline(always)]
-pub(crate) fn at_index<B, T>(block: &B, offset: usize, stride: usize, count: usize, n: usize) -> &T {
+pub(crate) fn at_index<B, T>(
+    block: &B,
+    offset: usize,
+    stride: usize,
+    count: usize,
+    n: usize,
+) -> &T {
     assert!(n < count, "member {n} of {count}");
     at(block, offset + stride * n)
 }
