@@ -6,13 +6,16 @@
 #
 #     tests/rustc_agrees.sh random COUNT [SEED]
 #
-# does the same with so many descriptions and scripts made at random. With PAC_EXEC=1, `pac exec` must print the same events.
+# does the same with so many descriptions and scripts made at random. With PAC_COMMANDS="exec run", or one of them, that command
+# must print the same events.
 top="$(cd "$(dirname "$0")/.." && pwd)" || exit 1
 program="$top/crates/pac_main/out/pac_main"
 export PYTHONDONTWRITEBYTECODE=1
 agree=(python3 "$top/tests/witness/agree.py")
 [ -x "$program" ] && agree+=(--program "$program")
-[ -n "$PAC_EXEC" ] && agree+=(--exec)
+for command in $PAC_COMMANDS; do
+    agree+=(--command "$command")
+done
 
 if [ "$1" = random ]; then
     exec "${agree[@]}" random "${2:-500}" "${3:-1}"

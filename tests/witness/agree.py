@@ -1,14 +1,14 @@
 """Whether rustc, the support file and a crate text give the events that a description's registers give.
 
-    python3 agree.py [--program PAC] [--exec] [--edition YEAR] gallery FOLDER
-    python3 agree.py [--program PAC] [--exec] [--edition YEAR] random COUNT SEED
+    python3 agree.py [--program PAC] [--command exec] [--command run] [--edition YEAR] gallery FOLDER
+    python3 agree.py [--program PAC] [--command exec] [--command run] [--edition YEAR] random COUNT SEED
     python3 agree.py [--edition YEAR] known
 
 Each case is a description and a script. With --program its crate text is what that program prints, and must be the text that
 crate_text.py prints; without, and where the program doesn't print such a description yet, it is the latter. Texts and scripts
 are compiled by rustc with support/generic.rs and run on its recording bus: with every answer 0, as memory, and with random
-answers; the events must be those of script.py, which reads the description and no text. With --exec the program's `exec`
-must print them too. `known` tries what rustc is known to refuse.
+answers; the events must be those of script.py, which reads the description and no text. Each --command of the program must
+print them too. `known` tries what rustc is known to refuse.
 """
 
 import argparse
@@ -29,10 +29,10 @@ HERE = pathlib.Path(__file__).resolve().parent
 SUPPORT = HERE.parent.parent / "support" / "generic.rs"
 # So many cases are compiled at once.
 EACH = 50
-# What the program doesn't print yet, and by what a case shows it; an entry goes with the work that builds it.
+# What the program doesn't print yet, and how a description shows it; an entry goes with the work that builds it.
 UNPRINTED = {
-    "derivedFrom": lambda description, text: "derivedFrom" in description,
-    "arrays of fields": lambda description, text: text.startswith("pub const CRATE_TEXT"),
+    "derived elements": lambda description: "derivedFrom" in description,
+    "arrays of fields": lambda description: re.search(r"<field\b[^>]*>(?:(?!</field>).)*\[%s\]", description, re.S),
 }
 
 MAIN = """
@@ -57,7 +57,7 @@ ALLOWED = "non_camel_case_types, non_snake_case, unused_imports, dead_code"
 
 class Case:
     def __init__(self, name, description, text, statements, answers):
-        self.name, self.text, self.script = name, text, statements
+        self.name, self.description, self.text, self.script = name, description, text, statements
         self.device = unfold(derive(read(description)))
         self.buses = [("zero", "zero"), ("memory", "memory"), ("answers", answers)]
         self.expected = {}
@@ -145,40 +145,42 @@ def rustc_agrees(cases, edition):
 
 
 class Program:
-    def __init__(self, path, with_exec):
-        self.path, self.with_exec = path, with_exec
+    def __init__(self, path, commands):
+        self.path, self.commands = path, commands
 
-    def call(self, folder, *words, **files):
-        for name, content in files.items():
-            (folder / name).write_text(content)
-        return subprocess.run([self.path, *words], cwd=folder, capture_output=True, text=True)
-
-    def printed(self, description):
-        """What `generate` prints, or None and its line."""
-        with tempfile.TemporaryDirectory() as name:
-            done = self.call(pathlib.Path(name), "generate", "d", d=description)
-        return (done.stdout, None) if done.returncode == 0 else (None, done.stderr.strip())
+    def prints(self, *words, **files):
+        """What the program writes over these files, and its line where it ends otherwise than well."""
+        with tempfile.TemporaryDirectory() as folder:
+            for name, content in files.items():
+                pathlib.Path(folder, name).write_text(content)
+            done = subprocess.run([self.path, *words], cwd=folder, capture_output=True, text=True)
+        return done.stdout, done.stderr.strip() if done.returncode else None
 
     def faults(self, case):
-        """Where `exec` prints other events."""
-        if not self.with_exec:
-            return
-        with tempfile.TemporaryDirectory() as name:
+        """Where a command prints other events."""
+        for command in self.commands:
+            if command == "run" and unprinted(case.description):
+                continue
+            source = {"exec": {"crate": case.text}, "run": {"svd": case.description}}[command]
             for bus in ("zero", "memory"):
-                done = self.call(pathlib.Path(name), "exec", "c", "s", "--bus", bus, c=case.text, s=case.script)
-                if done.returncode != 0 or done.stdout.splitlines() != case.expected[bus]:
-                    yield case.name, f"exec on the bus {bus}: status {done.returncode}\n{done.stdout}{done.stderr}"
+                got, line = self.prints(command, *source, "script", "--bus", bus, **source, script=case.script)
+                if line or got.splitlines() != case.expected[bus]:
+                    yield case.name, f"{command} on the bus {bus}: {line}\n{got}"
+
+
+def unprinted(description):
+    return any(shows(description) for shows in UNPRINTED.values())
 
 
 def text_of(name, description, program, faults):
-    """The crate text of a description: the program's, where it prints one."""
+    """The crate text of a description, the program's where it prints one: both must be the same."""
     own = crate_text.printed(unfold(derive(read(description))))
-    if program is None or any(shows(description, own) for shows in UNPRINTED.values()):
+    if program is None or unprinted(description):
         return own
-    printed, line = program.printed(description)
-    if printed != own:
+    printed, line = program.prints("generate", "svd", svd=description)
+    if line or printed != own:
         faults.append((name, line or "generate prints another text than crate_text.py"))
-    return printed or own
+    return own if line else printed
 
 
 def gallery(folder, program, faults):
@@ -237,12 +239,12 @@ def known(edition):
 def main():
     parser = argparse.ArgumentParser()
     parser.add_argument("--program")
-    parser.add_argument("--exec", action="store_true")
+    parser.add_argument("--command", action="append", choices=["exec", "run"], default=[])
     parser.add_argument("--edition", default="2021")
     parser.add_argument("what", choices=["gallery", "random", "known"])
     parser.add_argument("words", nargs="*")
     words = parser.parse_args()
-    program = Program(pathlib.Path(words.program).resolve(), words.exec) if words.program else None
+    program = Program(pathlib.Path(words.program).resolve(), words.command) if words.program else None
     faults, cases = [], []
     if words.what == "gallery":
         cases = list(gallery(words.words[0], program, faults))
