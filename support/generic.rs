@@ -49,6 +49,7 @@ mod bus {
     /// # Safety
     ///
     /// `place` is a register's, which may be read.
+    #[inline(always)]
     pub(super) unsafe fn load<U: super::Word>(place: *const U) -> U {
         // SAFETY: by the condition; a register's place is aligned to its width.
         unsafe { place.read_volatile() }
@@ -59,6 +60,7 @@ mod bus {
     /// # Safety
     ///
     /// `place` is a register's, which may be written.
+    #[inline(always)]
     pub(super) unsafe fn store<U: super::Word>(place: *mut U, word: U) {
         // SAFETY: by the condition; a register's place is aligned to its width.
         unsafe { place.write_volatile(word) }

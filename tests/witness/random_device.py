@@ -11,6 +11,7 @@ ODD = """type READ at_bit AT Self self crate u8 U16 usize BOOL Spec R W Reg Peri
     CLONE into_iter next map to_owned to_string fmt eq cmp hash drop default as_ref as_mut borrow borrow_mut deref ptr steal
     INTO TRY_INTO from try_from F N S n w r a String Option None Some Vec str main test union auto raw dyn async gen
     _reserved0 _ __ 1 0x1F 9LIVES static_ x_F generic recording Word""".split()
+VALUES = ODD + ["a b", "+1", "x&y", "1/2", "On", "ON", "Off", "bits", "SET_BIT", "a-b", "a+b"]
 ACCESSES = ["read-only", "write-only", "read-write", "writeOnce", "read-writeOnce"]
 KINDS = ["oneToClear", "oneToSet", "oneToToggle", "zeroToClear", "zeroToSet", "zeroToToggle", "clear", "set", "modify"]
 HIDDEN = ("into", "try_into")
@@ -46,7 +47,7 @@ class Maker:
             used.update(members)
             return name + mark
 
-    def props(self, widths):
+    def props(self):
         keys = ""
         if self.maybe(0.3):
             keys += tag("access", self.rng.choice(ACCESSES))
@@ -61,21 +62,24 @@ class Maker:
         base = self.rng.choice([0x40000000, 0x1000, 0x8, 0x7fff_0000_0000_0000, 0xfff0_0000_0000_0000])
         for _ in range(self.rng.randint(0, 4)):
             base += 8 * self.rng.randint(0, 0x10000)
-            derived = self.deriving and sources and self.maybe(0.5)
-            mark = "" if derived or self.maybe(0.8) else "%s"
+            mark = "" if self.maybe(0.8) else "%s"
             name = self.name("peripheral", used, mark)
-            keys = tag("name", name) + tag("baseAddress", number(self.rng, base))
+            keys = tag("name", name) + tag("baseAddress", number(self.rng, base)) + self.props()
             if mark:
                 keys += self.dim(8, mark)
-            if derived:
-                attribute = f' derivedFrom="{self.rng.choice(sources)}"'
-                content = self.props(64)
-            else:
-                attribute = ""
-                content = self.props(64) + tag("registers", self.children(0, 64, set()))
-                sources.append(name)
-            made += f"<peripheral{attribute}>{keys}{content}</peripheral>"
-        return tag("device", tag("name", "RANDOM") + self.props(64) + tag("peripherals", made))
+            attribute, inner = self.source(sources)
+            if not attribute or self.maybe(0.3):
+                keys += tag("registers", self.children(0, 64, inner))
+            sources.append((name, inner))
+            made += f"<peripheral{attribute}>{keys}</peripheral>"
+        return tag("device", tag("name", "RANDOM") + self.props() + tag("peripherals", made))
+
+    def source(self, sources):
+        """The attribute of a derived element, or none, and the names that its children have from its source."""
+        if self.deriving and sources and self.maybe(0.4):
+            name, used = self.rng.choice(sources)
+            return f' derivedFrom="{name}"', set(used)
+        return "", set()
 
     def dim(self, unit, mark):
         count = self.rng.randint(1, 5)
@@ -86,50 +90,40 @@ class Maker:
         return keys
 
     def children(self, depth, widest, used):
-        """Registers and clusters whose addresses are multiples of `widest` bits or of their own width."""
-        made, offset, sources = "", 0, []
+        """Registers and clusters. They are as wide as `widest` at most, and so aligned that their parent may stand at each of
+        its multiples."""
+        made, offset, sources = "", 0, {}
         for _ in range(self.rng.randint(0 if depth else 1, 6)):
             mark = self.rng.choice(["", "", "", "", "[%s]", "%s"])
-            cluster = depth < 3 and self.maybe(0.2)
+            kind = "cluster" if depth < 3 and self.maybe(0.2) else "register"
             unit = self.rng.choice([width for width in (8, 16, 32, 64) if width <= widest])
-            kind = "cluster" if cluster else "register"
             if self.maybe(0.1):
                 offset = self.rng.choice([0, 0, 0x100000000])
             offset += self.rng.choice([0, 0, 0, 1, 3, 20])
             offset += -offset % (unit // 8)
             name = self.name(kind, used, mark)
-            keys = tag("name", name) + tag("addressOffset", number(self.rng, offset))
+            keys = tag("name", name) + tag("addressOffset", number(self.rng, offset)) + self.props()
             if mark:
                 keys += self.dim(unit // 8, mark)
-            if cluster:
-                inner = self.children(depth + 1, unit, set())
-                made += tag("cluster", keys + self.props(unit) + inner)
+            # The source is as wide, so that the alignment is right.
+            attribute, inner = self.source(sources.setdefault((kind, unit), []))
+            sources[kind, unit].append((name, inner))
+            if kind == "cluster":
+                if not attribute or self.maybe(0.3):
+                    keys += self.children(depth + 1, unit, inner)
                 offset += 16
             else:
-                if self.deriving and sources and self.maybe(0.3):
-                    source, narrowest = self.rng.choice(sources)
-                    if offset % (narrowest // 8) == 0 and "%s" not in source:
-                        unit, attribute, content = narrowest, f' derivedFrom="{source}"', self.props(unit)
-                        if mark:
-                            # The members of a derived array or list are as aligned as the source's.
-                            keys = tag("name", name) + tag("addressOffset", offset) + tag("dim", 2) + tag(
-                                "dimIncrement", narrowest // 8 * self.rng.randint(0, 3))
-                        made += f"<register{attribute}>{keys}{content}</register>"
-                        offset += unit // 8
-                        continue
                 size = {8: [1, 7, 8], 16: [9, 12, 16], 32: [17, 24, 32], 64: [33, 48, 64]}[unit]
-                content = tag("size", self.rng.choice(size)) + self.props(unit)
-                if self.maybe(0.2):
-                    content += tag("modifiedWriteValues", self.rng.choice(KINDS))
-                if self.maybe(0.8):
-                    content += tag("fields", self.fields(unit))
-                made += tag("register", keys + content)
-                sources.append((name, unit))
+                keys += "" if attribute and self.maybe(0.5) else tag("size", self.rng.choice(size))
+                keys += tag("modifiedWriteValues", self.rng.choice(KINDS)) if self.maybe(0.2) else ""
+                if self.maybe(0.8 - 0.5 * bool(attribute)):
+                    keys += tag("fields", self.fields(unit, inner))
                 offset += unit // 8
+            made += f"<{kind}{attribute}>{keys}</{kind}>"
         return made
 
-    def fields(self, width):
-        made, used, sources = "", set(), []
+    def fields(self, width, used):
+        made, sources, sets = "", [], []
         for _ in range(self.rng.randint(0, 6)):
             offset = self.rng.randrange(width)
             wide = 1 if self.maybe(0.4) else self.rng.randint(1, width - offset)
@@ -146,24 +140,26 @@ class Maker:
             keys += self.rng.choice([
                 tag("bitRange", f"[{high}:{offset}]"), tag("lsb", offset) + tag("msb", high),
                 tag("bitOffset", number(self.rng, offset)) + tag("bitWidth", number(self.rng, wide))])
-            attribute = ""
             if self.maybe(0.3):
                 keys += tag("access", self.rng.choice(ACCESSES))
             if self.maybe(0.5):
                 keys += tag("modifiedWriteValues", self.rng.choice(KINDS))
-            if self.deriving and sources and self.maybe(0.3):
-                attribute = f' derivedFrom="{self.rng.choice(sources)}"'
-            else:
+            attribute, _ = self.source(sources)
+            if not attribute or self.maybe(0.2):
                 for usage in self.rng.choice([[], [], [""], ["read", "write"], ["read-write", "read"]]):
-                    keys += self.values(usage, wide)
-                sources.append(name)
+                    keys += self.values(usage, wide, sets)
+            sources.append((name, ()))
             made += f"<field{attribute}>{keys}</field>"
         return made
 
-    def values(self, usage, wide):
+    def values(self, usage, wide, sets):
+        """A set of values; `sets` are the names of those before it in its register."""
         made = tag("usage", usage) if usage else ""
-        for _ in range(self.rng.randint(0, 5)):
-            name = self.rng.choice(ODD + ["a b", "+1", "x&y", "1/2", "On", "Off", "bits", "SET_BIT", "a-b"])
+        attribute, _ = self.source(sets)
+        if self.maybe(0.5):
+            sets.append((f"SET{len(sets)}", ()))
+            made += tag("name", sets[-1][0])
+        for name in self.rng.sample(VALUES, self.rng.randint(0, 5)):
             value = self.rng.getrandbits(self.rng.randint(1, wide + 1))
             content = tag("name", saxutils.escape(name))
             if self.maybe(0.1):
@@ -171,7 +167,7 @@ class Maker:
             else:
                 content += tag("value", number(self.rng, value % 2 ** 64))
             made += tag("enumeratedValue", content)
-        return tag("enumeratedValues", made)
+        return f"<enumeratedValues{attribute}>{made}</enumeratedValues>"
 
 
 class Script:
