@@ -8,4 +8,5 @@ pub mod Stripping
 pub mod Likeness
 pub mod Arrays
 pub mod Patching
+pub mod Laws
 pub mod Worked

@@ -3,5 +3,7 @@
 #![tactic(auto)]
 
 mod fault;
+mod laws;
 
 pub use fault::PatchFault;
+pub use laws::{apart_law, deletion_law};

@@ -1,0 +1,4 @@
+mod Commuting
+mod Deleting
+mod Exchanges
+mod Outcomes
