@@ -6,4 +6,4 @@ mod fault;
 mod laws;
 
 pub use fault::PatchFault;
-pub use laws::{apart_law, deletion_law};
+pub use laws::{apart_law, copy_law, deletion_law, renaming_law};
