@@ -1,6 +1,6 @@
 -- Why a description isn't derived: the first element whose source is missing; then the first on a circle; then the first
 -- peripheral below which elements nest too deep; then too many elements. The limits are this project's own.
-use Rattle.std.specs.Prelude.{◌≡◌, ℕ, ◌≤◌, ◌<◌, nat_lt, Bool, List, [], ◌∷◌, length, take, Option, None, Some, option_map, ⊤}
+use Rattle.std.specs.Prelude.{◌≡◌, ℕ, ◌≤◌, ◌<◌, nat_lt, List, length, take, Option, None, Some, option_map}
 use Rattle.std.specs.List.{find}
 use Rattle.derived_rows.specs.Dependence.{HasNoCircle, IsFirstOnCircle, deriving_paths}
 use Rattle.derived_rows.specs.Deriving.{derived_rows}

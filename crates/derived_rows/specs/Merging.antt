@@ -1,6 +1,6 @@
 -- What an element takes from its source: the keys that it doesn't state, and the children that it has none of its own
 -- for (this project's own rules).
-use Rattle.std.specs.Prelude.{ℕ, ◌+◌, Bool, true, false, ◌&&◌, ◌||◌, not, cond, nat_eq, List, [], ◌∷◌, ◌++◌, Option, None, Some}
+use Rattle.std.specs.Prelude.{ℕ, ◌+◌, Bool, true, false, ◌&&◌, ◌||◌, not, cond, nat_eq, List, [], ◌∷◌, ◌++◌, Option, Some}
 use Rattle.std.specs.List.{list_all, list_any}
 use Rattle.std.specs.Str.{bytes_eq}
 use Rattle.pac_base.specs.Names.{is_word_byte}
@@ -79,7 +79,7 @@ renumbered n (child ∷ children) =
 -- the own sets of a field, where there are any, stand in the place of all sets of its source
 abbrev pub sets_of : {X : Type 0} → List (Step × X) → List (Step × X) → List (Step × X)
 sets_of source [] = source
-sets_of source (set ∷ sets) = set ∷ sets
+sets_of source (first ∷ others) = first ∷ others
 
 -- the children of an element of this kind, where these are its source's and these its own
 abbrev pub children_by : {X : Type 0} → Option Kind → List (Step × X) → List (Step × X) → List (Step × X)

@@ -1,6 +1,6 @@
 -- From which element another is derived (CMSIS-SVD 1.3, `derivedFrom`). That names are followed from each element round
 -- it, the nearest first, and that a set may be named in another field, are this project's own rules.
-use Rattle.std.specs.Prelude.{Bool, true, ◌&&◌, not, List, [], ◌∷◌, ◌++◌, map, reverse, drop, Option, None, Some, option_map, option_and_then, if◌then◌else◌}
+use Rattle.std.specs.Prelude.{Bool, ◌&&◌, not, List, [], ◌∷◌, ◌++◌, map, reverse, drop, Option, None, Some, option_map, option_and_then, if◌then◌else◌}
 use Rattle.std.specs.List.{find}
 use Rattle.std.specs.Option.{option_or}
 use Rattle.std.specs.Str.{bytes_eq}
@@ -75,11 +75,12 @@ kind_at [] = None
 kind_at (step ∷ []) = Some step.kind
 kind_at (step ∷ next ∷ path) = kind_at (next ∷ path)
 
+-- the element of this kind that the names of an element reach, where there are a kind and names
+abbrev pub sought_from : List (Row Step Key) → List Step → Option Kind → Option (List Written) → Option (List Step)
+sought_from all path None names = None
+sought_from all path (Some kind) None = None
+sought_from all path (Some kind) (Some names) = source_among all kind names (ancestors path)
+
 -- the element from which that of a path is derived
 unfoldable pub source_of : List (Row Step Key) → List Step → Option (List Step)
-source_of all path = at (kind_at path) (source_names all path)
-  where
-    at : Option Kind → Option (List Written) → Option (List Step)
-    at None names = None
-    at (Some kind) None = None
-    at (Some kind) (Some names) = source_among all kind names (ancestors path)
+source_of all path = sought_from all path (kind_at path) (source_names all path)

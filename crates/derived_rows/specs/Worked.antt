@@ -1,17 +1,16 @@
 -- Small descriptions with what deriving makes of their rows, by computation.
-use Rattle.std.specs.Prelude.{◌≡◌, ℕ, List, [], ◌∷◌, ◌++◌, map, codes, None, Some, refl}
+use Rattle.std.specs.Prelude.{◌≡◌, ℕ, List, [], ◌∷◌, ◌++◌, map, codes, None, refl}
 use Rattle.derived_rows.specs.Deriving.{derived_rows, derived_by, element_rows}
 use Rattle.derived_rows.specs.Merging.{is_marked_at, is_stated, with_taken, taken, has_named, replaced_by, kept, added, merged, renumbered}
 use Rattle.derived_rows.specs.Sources.{has_name, named_child, followed, of_kind, reached, second_try, source_among, kind_at, source_of}
 use Rattle.need_order.specs.Levels.{by_levels}
-use Rattle.pac_base.specs.declared.path.Step.{Step as Written}
 use Rattle.svd_model.specs.Keys.{Key, rank, derived_from, base_address, at_offset, reset_value, enumerated_value}
 use Rattle.svd_model.specs.Stating.{value_of, paths_of, ways_down}
 use Rattle.svd_model.specs.Steps.{Step, Kind, peripheral, register, field, set, value, same_step}
 use Rattle.svd_rows.specs.LookUps.{inside, keys_of, children_of, top_key, child_step, ends_with}
 use Rattle.svd_rows.specs.Paths.{begins, fits}
 use Rattle.svd_rows.specs.Ranks.{set_key}
-use Rattle.svd_rows.specs.Rows.{Row, Said, element, states, own, under, is_element}
+use Rattle.svd_rows.specs.Rows.{Row, element, states, own, under, is_element}
 
 abbrev step : Kind → List ℕ → ℕ → Step
 step kind name number = record { kind = kind; name = name; number = number }

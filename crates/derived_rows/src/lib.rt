@@ -4,4 +4,4 @@
 
 mod laws;
 
-pub use laws::levels_law;
+pub use laws::{circle_law, levels_law, paths_law, undone_law};
