@@ -20,6 +20,7 @@ done
 if [ "$1" = random ]; then
     exec "${agree[@]}" random "${2:-500}" "${3:-1}"
 fi
+python3 "$top/tests/witness/rows.py" || exit 1
 "${agree[@]}" gallery "$top/examples/gallery" || exit 1
 command -v rustc >/dev/null || exit 0
 
