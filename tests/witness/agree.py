@@ -4,11 +4,11 @@
     python3 agree.py [--program PAC] [--command exec] [--command run] [--edition YEAR] random COUNT SEED
     python3 agree.py [--edition YEAR] known
 
-Each case is a description and a script. With --program its crate text is what that program prints, and must be the text that
-crate_text.py prints; without, and where the program doesn't print such a description yet, it is the latter. Texts and scripts
-are compiled by rustc with support/generic.rs and run on its recording bus: with every answer 0, as memory, and with random
-answers; the events must be those of script.py, which reads the description and no text. Each --command of the program must
-print them too. `known` tries what rustc is known to refuse.
+Each case is a description, for some a patch, and a script. With --program its crate text is what that program prints, and must
+be the text that crate_text.py prints; without, and where the program doesn't print such a one yet, it is the latter. Texts and
+scripts are compiled by rustc with support/generic.rs and run on its recording bus: with every answer 0, as memory, and with
+random answers; the events must be those of script.py, which reads the description and no text. Each --command of the program
+must print them too. `known` tries what rustc is known to refuse.
 """
 
 import argparse
@@ -24,6 +24,7 @@ import crate_text
 import random_device
 import script
 from description import derive, read, unfold
+from patch import patched
 
 HERE = pathlib.Path(__file__).resolve().parent
 SUPPORT = HERE.parent.parent / "support" / "generic.rs"
@@ -31,8 +32,9 @@ SUPPORT = HERE.parent.parent / "support" / "generic.rs"
 EACH = 50
 # What the program doesn't print yet, and how a description shows it; an entry goes with the work that builds it.
 UNPRINTED = {
-    "derived elements": lambda description: "derivedFrom" in description,
-    "arrays of fields": lambda description: re.search(r"<field\b[^>]*>(?:(?!</field>).)*\[%s\]", description, re.S),
+    "patches": lambda files: "patch" in files,
+    "derived elements": lambda files: "derivedFrom" in files["svd"],
+    "arrays of fields": lambda files: re.search(r"<field\b[^>]*>(?:(?!</field>).)*\[%s\]", files["svd"], re.S),
 }
 
 MAIN = """
@@ -55,10 +57,16 @@ fn main() { runs::all(); }
 ALLOWED = "non_camel_case_types, non_snake_case, unused_imports, dead_code"
 
 
+def resolved(files):
+    """The device of a description, the file "svd", and where there is one of its patch, the file "patch"."""
+    device = read(files["svd"])
+    return unfold(derive(patched(device, files["patch"]) if "patch" in files else device))
+
+
 class Case:
-    def __init__(self, name, description, text, statements, answers):
-        self.name, self.description, self.text, self.script = name, description, text, statements
-        self.device = unfold(derive(read(description)))
+    def __init__(self, name, files, text, statements, answers):
+        self.name, self.files, self.text, self.script = name, files, text, statements
+        self.device = resolved(files)
         self.buses = [("zero", "zero"), ("memory", "memory"), ("answers", answers)]
         self.expected = {}
         for bus, of in self.buses:
@@ -148,36 +156,37 @@ class Program:
     def __init__(self, path, commands):
         self.path, self.commands = path, commands
 
-    def prints(self, *words, **files):
-        """What the program writes over these files, and its line where it ends otherwise than well."""
+    def prints(self, command, *words, **files):
+        """What a command writes whose words are the names of files, then others; and its line where it doesn't end well."""
+        words = [word for name in files for word in (["--patch", name] if name == "patch" else [name])] + list(words)
         with tempfile.TemporaryDirectory() as folder:
             for name, content in files.items():
                 pathlib.Path(folder, name).write_text(content)
-            done = subprocess.run([self.path, *words], cwd=folder, capture_output=True, text=True)
+            done = subprocess.run([self.path, command, *words], cwd=folder, capture_output=True, text=True)
         return done.stdout, done.stderr.strip() if done.returncode else None
 
     def faults(self, case):
         """Where a command prints other events."""
         for command in self.commands:
-            if command == "run" and unprinted(case.description):
+            if command == "run" and unprinted(case.files):
                 continue
-            source = {"exec": {"crate": case.text}, "run": {"svd": case.description}}[command]
+            source = {"exec": {"crate": case.text}, "run": case.files}[command]
             for bus in ("zero", "memory"):
-                got, line = self.prints(command, *source, "script", "--bus", bus, **source, script=case.script)
+                got, line = self.prints(command, "--bus", bus, **source, script=case.script)
                 if line or got.splitlines() != case.expected[bus]:
                     yield case.name, f"{command} on the bus {bus}: {line}\n{got}"
 
 
-def unprinted(description):
-    return any(shows(description) for shows in UNPRINTED.values())
+def unprinted(files):
+    return any(shows(files) for shows in UNPRINTED.values())
 
 
-def text_of(name, description, program, faults):
+def text_of(name, files, program, faults):
     """The crate text of a description, the program's where it prints one: both must be the same."""
-    own = crate_text.printed(unfold(derive(read(description))))
-    if program is None or unprinted(description):
+    own = crate_text.printed(resolved(files))
+    if program is None or unprinted(files):
         return own
-    printed, line = program.prints("generate", "svd", svd=description)
+    printed, line = program.prints("generate", **files)
     if line or printed != own:
         faults.append((name, line or "generate prints another text than crate_text.py"))
     return own if line else printed
@@ -185,10 +194,12 @@ def text_of(name, description, program, faults):
 
 def gallery(folder, program, faults):
     for path in sorted(pathlib.Path(folder).glob("*.svd")):
-        description, statements = path.read_text(), path.with_suffix(".script").read_text()
+        files = {"svd": path.read_text()}
+        if path.with_suffix(".yaml").exists():
+            files["patch"] = path.with_suffix(".yaml").read_text()
         rng = random.Random(path.stem)
-        text = text_of(path.stem, description, program, faults)
-        case = Case(path.stem, description, text, statements, [rng.getrandbits(64) for _ in range(40)])
+        text = text_of(path.stem, files, program, faults)
+        case = Case(path.stem, files, text, path.with_suffix(".script").read_text(), [rng.getrandbits(64) for _ in range(40)])
         if path.with_suffix(".rs").read_text() != text:
             faults.append((path.stem, "its crate text is another"))
         if path.with_suffix(".events").read_text().splitlines() != case.expected["memory"]:
@@ -200,9 +211,9 @@ def at_random(count, seed, program, faults):
     for k in range(count):
         rng = random.Random(seed + k)
         description, statements = random_device.case(rng, deriving=k % 2 == 1, arrays=k % 4 > 1)
-        name = f"random {seed + k}"
-        text = text_of(name, description, program, faults)
-        yield Case(name, description, text, statements, [rng.getrandbits(64) for _ in range(12)])
+        name, files = f"random {seed + k}", {"svd": description}
+        text = text_of(name, files, program, faults)
+        yield Case(name, files, text, statements, [rng.getrandbits(64) for _ in range(12)])
 
 
 def known(edition):
@@ -215,8 +226,9 @@ def known(edition):
                        "</register>" for name, offset in registers.items())
         description = (f"<device><name>D</name><peripherals><peripheral><name>T</name><baseAddress>{base}</baseAddress>"
                        f"<registers>{made}</registers></peripheral></peripherals></device>")
-        text = crate_text.printed(unfold(derive(read(description))))
-        return not rustc_agrees([Case("known", description, text, statements, [3])], edition)
+        files = {"svd": description}
+        text = crate_text.printed(resolved(files))
+        return not rustc_agrees([Case("known", files, text, statements, [3])], edition)
 
     into, plain = {"INTO": 0, "TRY_INTO": 4}, {"A": 4}
     rows = [

@@ -69,15 +69,15 @@ def element(xml):
         elif child.tag == "value":
             new.keys["value"] = number(text, loose=True)
     if xml.tag == "field":
-        place(xml, new.keys)
+        set_place({child.tag: (child.text or "").strip() for child in xml}, new.keys)
         if new.derived is None:
             new.keys.setdefault("width", 1)
     new.children = [child for child in new.children if not (child.kind == "field" and child.name.lower() == "reserved")]
     return new
 
 
-def place(xml, keys):
-    texts = {child.tag: (child.text or "").strip() for child in xml}
+def set_place(texts, keys):
+    """Sets a field's offset and width by the first of the forms that stands."""
     if "bitRange" in texts:
         high, low = (int(part) for part in texts["bitRange"].strip("[]").split(":"))
     elif "lsb" in texts and "msb" in texts:

@@ -65,9 +65,9 @@ class Maker:
             mark = "" if self.maybe(0.8) else "%s"
             name = self.name("peripheral", used, mark)
             keys = tag("name", name) + tag("baseAddress", number(self.rng, base)) + self.props()
-            if mark:
-                keys += self.dim(8, mark)
             attribute, inner = self.source(sources)
+            if mark:
+                keys += self.dim(8, attribute)
             if not attribute or self.maybe(0.3):
                 keys += tag("registers", self.children(0, 64, inner))
             sources.append((name, inner))
@@ -81,10 +81,11 @@ class Maker:
             return f' derivedFrom="{name}"', set(used)
         return "", set()
 
-    def dim(self, unit, mark):
+    def dim(self, unit, derived):
+        """The keys of a dimension. A derived element states its indexes, since its source's may be too many."""
         count = self.rng.randint(1, 5)
         keys = tag("dim", count) + tag("dimIncrement", number(self.rng, unit * self.rng.randint(0, 4)))
-        if mark == "%s" and self.maybe(0.4):
+        if derived or self.maybe(0.4):
             first = self.rng.randint(0, 9)
             keys += tag("dimIndex", f"{first}-{first + count - 1}")
         return keys
@@ -103,10 +104,10 @@ class Maker:
             offset += -offset % (unit // 8)
             name = self.name(kind, used, mark)
             keys = tag("name", name) + tag("addressOffset", number(self.rng, offset)) + self.props()
-            if mark:
-                keys += self.dim(unit // 8, mark)
             # The source is as wide, so that the alignment is right.
             attribute, inner = self.source(sources.setdefault((kind, unit), []))
+            if mark:
+                keys += self.dim(unit // 8, attribute)
             sources[kind, unit].append((name, inner))
             if kind == "cluster":
                 if not attribute or self.maybe(0.3):
@@ -284,4 +285,4 @@ class Script:
 def case(rng, deriving, arrays):
     """A description's text and a script's; `deriving` lets elements be derived, `arrays` lets fields be arrays."""
     text = Maker(rng, deriving, arrays).device()
-    return text, Script(rng, unfold(derive(read(text)))).text(12)
+    return text, Script(rng, unfold(derive(read(text)))).text(20)
