@@ -1,5 +1,9 @@
-// Commands of a patch in the tree of a description.
+// What commands of a patch do to the tree of a description: a walk along a command's patterns, and an edit of the children of
+// each element that they lead to.
 #![tactic(auto)]
 
-/// Nothing.
-pub fn nothing() {}
+mod edit;
+mod walking;
+
+pub use edit::Edit;
+pub use walking::walk;
