@@ -3,3 +3,6 @@ pub mod Walks
 pub mod Passed
 pub mod EditedTrees
 pub mod Fields
+pub mod Deleting
+pub mod Applying
+pub mod Keeping

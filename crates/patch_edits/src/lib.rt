@@ -2,8 +2,10 @@
 // each element that they lead to.
 #![tactic(auto)]
 
+mod deletion;
 mod edit;
 mod walking;
 
+pub use deletion::delete;
 pub use edit::Edit;
 pub use walking::walk;
