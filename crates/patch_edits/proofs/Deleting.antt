@@ -1,6 +1,7 @@
 -- Opening and deleting in the tree are those among the rows.
-use Rattle.std.proofs.Common.{◌≡◌, ◌≢◌, ◌≤◌, ℕ, ◌+◌, Bool, true, false, cond, not, List, [], ◌∷◌, ◌++◌, map, filter, length, Option, Some, None, Ok, Err, refl, sym, ap, ap₂, ◌∙◌, subst, arith}
+use Rattle.std.proofs.Common.{◌≡◌, ◌≢◌, ◌≤◌, ℕ, ◌+◌, Bool, true, false, cond, not, ◌||◌, List, [], ◌∷◌, ◌++◌, map, filter, length, Option, Some, None, Ok, Err, refl, sym, ap, ap₂, ◌∙◌, subst, arith}
 use Rattle.std.proofs.lemmas.List.Elements.{filter_agree}
+use Rattle.std.specs.List.{list_any}
 use Rattle.patch_model.specs.Acts.{Order, PatternItems, deletes, opens}
 use Rattle.patch_sem.specs.declared.fault.PatchFault.{PatchFault}
 use Rattle.patch_sem.specs.declared.fault.PatchFault.TheVariants.{NoMatch}
@@ -182,3 +183,34 @@ field_tells pattern entry = refl
 
 pub item_tells : (pattern : PatternItems) (item : Item) → selects pattern (item_under item).0 ≡ is_item_matched pattern item
 item_tells pattern item = item-selected pattern item (is_item_matched pattern item) refl
+
+-- ---- a list of children in which a pattern is opened
+
+pub opening-every : (line : ℕ) (pattern : PatternItems) (P : Step → List Key → Type 0) → Keeps (Every P) (opened_below line pattern)
+unfolding opened_below
+opening-every line pattern P kind f new e h = subst (Every P) (gave line kind (matched pattern f) f new e) h
+
+pub opening-distinct : (line : ℕ) (pattern : PatternItems) → Keeps (IsDistinct same_key) (opened_below line pattern)
+unfolding opened_below
+opening-distinct line pattern kind f new e h = subst (IsDistinct same_key) (gave line kind (matched pattern f) f new e) h
+
+module _ {A : Type 0} (line : ℕ) (pattern : PatternItems) (seen : A → Step × Tree Step Key) (test : A → Bool) (tells : (x : A) → selects pattern (seen x).0 ≡ test x) where
+  list_unless : (all : List A) (made : Below) → unless_none line (filter (selects pattern) (map (λ x. (seen x).0) all)) (Ok made) ≡ cond (list_any test all) (Ok made) (Err (NoMatch line))
+  list_unless [] made = refl
+  list_unless (x ∷ all) made =
+      ap (λ (b : Bool). unless_none line (cond b ((seen x).0 ∷ filter (selects pattern) (map (λ y. (seen y).0) all)) (filter (selects pattern) (map (λ y. (seen y).0) all))) (given made)) (tells x)
+      ∙ cases (test x) (list_unless all made)
+    where
+      cases : (b : Bool) → unless_none line (filter (selects pattern) (map (λ y. (seen y).0) all)) (given made) ≡ cond (list_any test all) (given made) (Err (NoMatch line))
+          → unless_none line (cond b ((seen x).0 ∷ filter (selects pattern) (map (λ y. (seen y).0) all)) (filter (selects pattern) (map (λ y. (seen y).0) all))) (given made) ≡ cond (b || list_any test all) (given made) (Err (NoMatch line))
+      cases true more = refl
+      cases false more = more
+
+  unless_any : (all : List A) (made : Below) → unless_none line (matched pattern (siblings (map seen all))) (Ok made) ≡ cond (list_any test all) (Ok made) (Err (NoMatch line))
+  unless_any all made = ap (λ (steps : List Step). unless_none line (filter (selects pattern) steps) (given made)) (steps-siblings (map seen all) ∙ map-map (λ x. x.0) seen all) ∙ list_unless all made
+
+  pub opens-some : (all : List A) → list_any test all ≡ true → unless_none line (matched pattern (siblings (map seen all))) (Ok (siblings (map seen all))) ≡ Ok (siblings (map seen all))
+  opens-some all is = unless_any all (siblings (map seen all)) ∙ ap (λ (b : Bool). cond b (given (siblings (map seen all))) (Err (NoMatch line))) is
+
+  pub opens-none : (all : List A) → list_any test all ≡ false → unless_none line (matched pattern (siblings (map seen all))) (Ok (siblings (map seen all))) ≡ Err (NoMatch line)
+  opens-none all is = unless_any all (siblings (map seen all)) ∙ ap (λ (b : Bool). cond b (given (siblings (map seen all))) (Err (NoMatch line))) is

@@ -4,8 +4,10 @@
 
 mod deletion;
 mod edit;
+mod opening;
 mod walking;
 
 pub use deletion::delete;
 pub use edit::Edit;
+pub use opening::open;
 pub use walking::walk;
