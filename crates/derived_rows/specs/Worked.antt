@@ -2,7 +2,7 @@
 use Rattle.std.specs.Prelude.{◌≡◌, ℕ, List, [], ◌∷◌, ◌++◌, map, codes, None, refl}
 use Rattle.derived_rows.specs.Deriving.{derived_rows, derived_by, element_rows}
 use Rattle.derived_rows.specs.Merging.{is_marked_at, is_stated, with_taken, taken, has_named, replaced_by, kept, added, merged, renumbered}
-use Rattle.derived_rows.specs.Sources.{has_name, named_child, followed, of_kind, reached, second_try, source_among, kind_at, source_of}
+use Rattle.derived_rows.specs.Sources.{has_name, child_paths, named_child, followed, of_kind, reached, second_try, source_among, kind_at, source_of}
 use Rattle.need_order.specs.Levels.{by_levels}
 use Rattle.svd_model.specs.Keys.{Key, rank, derived_from, base_address, at_offset, reset_value, enumerated_value}
 use Rattle.svd_model.specs.Stating.{value_of, paths_of, ways_down}
@@ -46,7 +46,7 @@ chain_rows below_b rows_c =
 
 -- B keeps its own reset value, and C takes that of B, and the register of A through B
 pub derived_chain : derived_rows (chain_rows [] (rows_at (c ∷ []) (from (codes "B") ∷ base_address 12288 ∷ []))) ≡ chain_rows (rows_at (b ∷ r ∷ []) (at_offset 0 ∷ [])) (rows_at (c ∷ []) (from (codes "B") ∷ base_address 12288 ∷ reset_value 2 ∷ []) ++ rows_at (c ∷ r ∷ []) (at_offset 0 ∷ []))
-unfolding derived_rows derived_by by_levels element_rows source_of source_among kind_at second_try reached of_kind followed named_child has_name is_marked_at is_stated with_taken taken has_named replaced_by kept added merged renumbered rank value_of paths_of ways_down same_step inside keys_of children_of top_key child_step ends_with begins fits set_key own under is_element
+unfolding derived_rows derived_by by_levels element_rows source_of source_among kind_at second_try reached of_kind followed child_paths named_child has_name is_marked_at is_stated with_taken taken has_named replaced_by kept added merged renumbered rank value_of paths_of ways_down same_step inside keys_of children_of top_key child_step ends_with begins fits set_key own under is_element
 derived_chain = refl
 
 -- ---- values shared by fields: the set of G is derived from the set E of F, by the second try, and has a value X of its own
@@ -78,5 +78,5 @@ set_rows values =
     ++ (rows_at (a ∷ r ∷ g ∷ []) [] ++ (rows_at (a ∷ r ∷ g ∷ unnamed ∷ []) (from (codes "E") ∷ []) ++ values))))))))
 
 pub own_value_of_a_set : derived_rows (set_rows (value_rows (a ∷ r ∷ g ∷ unnamed ∷ []) (codes "X") 0 3)) ≡ set_rows (value_rows (a ∷ r ∷ g ∷ unnamed ∷ []) (codes "X") 0 3 ++ value_rows (a ∷ r ∷ g ∷ unnamed ∷ []) (codes "Y") 1 1)
-unfolding derived_rows derived_by by_levels element_rows source_of source_among kind_at second_try reached of_kind followed named_child has_name is_marked_at is_stated with_taken taken has_named replaced_by kept added merged renumbered rank value_of paths_of ways_down same_step inside keys_of children_of top_key child_step ends_with begins fits set_key own under is_element
+unfolding derived_rows derived_by by_levels element_rows source_of source_among kind_at second_try reached of_kind followed child_paths named_child has_name is_marked_at is_stated with_taken taken has_named replaced_by kept added merged renumbered rank value_of paths_of ways_down same_step inside keys_of children_of top_key child_step ends_with begins fits set_key own under is_element
 own_value_of_a_set = refl
