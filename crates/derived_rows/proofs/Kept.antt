@@ -169,7 +169,7 @@ unfolding begins
 begins-front [] down = refl
 begins-front (step ∷ path) down = and_from (same_step step step) (begins (exactly same_step path) (path ++ down)) (same_step-tells.itself step) (begins-front path down)
 
-drop-front : (path down : List Step) → drop (length path) (path ++ down) ≡ down
+pub drop-front : (path down : List Step) → drop (length path) (path ++ down) ≡ down
 drop-front [] down = refl
 drop-front (step ∷ path) down = drop-front path down
 

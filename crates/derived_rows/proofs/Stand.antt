@@ -1,7 +1,7 @@
 -- What an element depends on are elements.
 use Rattle.std.specs.Prelude.{⊤}
 use Rattle.std.proofs.Common.{◌≡◌, inl, inr, Bool, true, false, cond, List, [], ◌∷◌, ◌++◌, map, filter, filter_map, length, drop, Option, None, Some, option_map, option_and_then, refl, sym, ap, ◌∙◌, subst}
-use Rattle.std.specs.List.{find, flat_map, cons_option}
+use Rattle.std.specs.List.{find, cons_option}
 use Rattle.std.specs.Option.{option_or}
 use Rattle.std.specs.Set.{is_member}
 use Rattle.std.proofs.lemmas.Bool.{and_parts, true≢false}
@@ -15,7 +15,7 @@ use Rattle.svd_model.specs.Stating.{paths_of, is_of}
 use Rattle.svd_model.specs.Steps.{Step, Kind, peripheral, cluster, register, field, set, value, same_step}
 use Rattle.svd_model.proofs.Steps.{same_step-tells}
 use Rattle.svd_rows.specs.LookUps.{inside, seen_below, child_step, children_of, ends_with}
-use Rattle.svd_rows.specs.Paths.{begins, exactly, is_within}
+use Rattle.svd_rows.specs.Paths.{begins, exactly, fits, is_within}
 use Rattle.svd_rows.specs.Rows.{Row, Said, element, states, is_element}
 
 -- a path that begins as another is that one and what is left of it
@@ -81,13 +81,13 @@ module _ (all : List (Row Step Key)) where
   Stands None = ⊤
   Stands (Some path) = IsAmong (paths_of all) path
 
-  -- what is found among elements is one
-  find-stands : (test : List Step → Bool) (paths : List (List Step)) → ((path : List Step) → IsAmong paths path → IsAmong (paths_of all) path) → Stands (find test paths)
-  find-stands test paths each = at (find test paths) refl
+  -- what is found among the elements is one of them
+  find-stands : (test : List Step → Bool) → Stands (find test (paths_of all))
+  find-stands test = at (find test (paths_of all)) refl
     where
-      at : (o : Option (List Step)) → find test paths ≡ o → Stands o
+      at : (o : Option (List Step)) → find test (paths_of all) ≡ o → Stands o
       at None e = tt
-      at (Some path) e = each path (find-member test paths path e)
+      at (Some path) e = find-member test (paths_of all) path e
 
   pub child-paths-stand : (path other : List Step) → IsAmong (child_paths all path) other → IsAmong (paths_of all) other
   unfolding child_paths
@@ -97,15 +97,7 @@ module _ (all : List (Row Step Key)) where
 
   named-stands : (name : Written) (path : List Step) → Stands (named_child all name path)
   unfolding named_child
-  named-stands name path = find-stands (ends_with (has_name name)) (child_paths all path) (child-paths-stand path)
-
-  -- children of any of these are elements
-  inner-stand : (paths : List (List Step)) (other : List Step) → IsAmong (flat_map (child_paths all) paths) other → IsAmong (paths_of all) other
-  inner-stand [] other h = absurd (true≢false (sym h))
-  inner-stand (path ∷ paths) other h = elim (member-append same_path same_path-tells (child_paths all path) (flat_map (child_paths all) paths) other h) [
-    | inl p ↦ child-paths-stand path other p
-    | inr p ↦ inner-stand paths other p
-  ]
+  named-stands name path = find-stands (fits (exactly same_step path ++ has_name name ∷ []))
 
   followed-stands : (names : List Written) (path : List Step) → IsAmong (paths_of all) path → Stands (followed all names path)
   unfolding followed
@@ -144,7 +136,7 @@ module _ (all : List (Row Step Key)) where
   second-stands : (kind : Kind) (names : List Written) (around : List (List Step)) → Stands (second_try all kind names around)
   unfolding second_try
   second-stands set (name ∷ []) (parent ∷ outer ∷ others) =
-      find-stands (ends_with (is_set_named name)) (flat_map (child_paths all) (child_paths all outer)) (inner-stand (child_paths all outer))
+      find-stands (fits (exactly same_step outer ++ (λ step. true) ∷ is_set_named name ∷ []))
   second-stands set [] around = tt
   second-stands set (name ∷ []) [] = tt
   second-stands set (name ∷ []) (parent ∷ []) = tt

@@ -1,0 +1,3 @@
+/// Nothing yet.
+pub fn numbers_law()
+{}
