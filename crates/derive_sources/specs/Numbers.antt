@@ -1,13 +1,13 @@
 -- The elements of a description by numbers, in document order; the device is 0.
-use Rattle.std.specs.Prelude.{◌≡◌, ℕ, ◌+◌, ◌<◌, Bool, false, ◌&&◌, not, nat_eq, List, [], ◌∷◌, ◌++◌, map, length, get_or, Option, None, Some, ⊤}
-use Rattle.std.specs.List.{IsDistinct}
+use Rattle.std.specs.Prelude.{◌≡◌, ℕ, ◌+◌, ◌<◌, Bool, false, ◌&&◌, not, nat_eq, List, [], ◌∷◌, ◌++◌, map, length, get_or, Option, None, Some, option_and_then, ⊤}
+use Rattle.std.specs.List.{IsDistinct, position_from}
 use Rattle.std.specs.Str.{bytes_eq}
 use Rattle.derived_rows.specs.Dependence.{same_path}
 use Rattle.derived_rows.specs.Sources.{stated_source, source_names}
 use Rattle.pac_base.specs.declared.path.Step.{Step as Written}
 use Rattle.svd_model.specs.Keys.{Key}
 use Rattle.svd_model.specs.Stating.{value_of, paths_of}
-use Rattle.svd_model.specs.Steps.{Step, Kind}
+use Rattle.svd_model.specs.Steps.{Step, Kind, set, same_kind}
 use Rattle.svd_rows.specs.Forest.{Forest, Tree, leaf, node}
 use Rattle.svd_rows.specs.Rows.{Row}
 
@@ -87,3 +87,23 @@ is_named name item = not (bytes_eq item.name []) && bytes_eq name.name item.name
 -- the item is a child of this name
 abbrev pub is_child : ℕ → Written → Item → Bool
 is_child parent name item = is_number parent item.parent && is_named name item
+
+-- the number of the parent of an item's parent
+abbrev pub outer_of : List Item → Item → Option ℕ
+outer_of items item = option_and_then (λ parent. (item_at items parent).parent) item.parent
+
+abbrev pub is_set : Option Kind → Bool
+is_set None = false
+is_set (Some kind) = same_kind set kind
+
+-- the item is a set of this name, two steps below the element of a number
+abbrev pub is_inner_set : List Item → ℕ → Written → Item → Bool
+is_inner_set items outer name item = is_number outer (outer_of items item) && (is_set item.kind && is_named name item)
+
+-- the first child of an element that has this name
+unfoldable pub first_child : List Item → ℕ → Written → Option ℕ
+first_child items parent name = position_from (is_child parent name) 0 items
+
+-- the first set of this name two steps below an element
+unfoldable pub first_set : List Item → ℕ → Written → Option ℕ
+first_set items outer name = position_from (is_inner_set items outer name) 0 items

@@ -1,4 +1,8 @@
 // The elements of a description by numbers, and the source of each.
 #![tactic(auto)]
 
+mod entry;
 mod laws;
+mod listing;
+
+pub use entry::{Entry, Kind};

@@ -158,7 +158,7 @@ among-element path keys children h =
     ]
 
 -- the last step of a longer path
-kind-last : (path : List Step) (step : Step) → kind_at (path ++ step ∷ []) ≡ Some step.kind
+pub kind-last : (path : List Step) (step : Step) → kind_at (path ++ step ∷ []) ≡ Some step.kind
 unfolding kind_at
 kind-last [] step = refl
 kind-last (x ∷ []) step = refl
