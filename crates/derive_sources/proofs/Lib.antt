@@ -1,2 +1,4 @@
 pub mod Numbering
 pub mod Seats
+pub mod Listed
+pub mod Indexes

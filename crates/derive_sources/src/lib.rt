@@ -2,7 +2,9 @@
 #![tactic(auto)]
 
 mod entry;
+mod index;
 mod laws;
 mod listing;
 
 pub use entry::{Entry, Kind};
+pub use listing::entries_of;
