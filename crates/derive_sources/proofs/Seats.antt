@@ -1,11 +1,12 @@
 -- Look-ups of elements by their numbers are look-ups by paths.
+use Rattle.std.specs.Prelude.{⊤}
 use Rattle.std.proofs.Common.{◌≡◌, inl, inr, ℕ, zero, suc, ◌+◌, ◌<◌, Bool, true, false, ◌&&◌, not, cond, nat_eq, List, [], ◌∷◌, ◌++◌, map, reverse, length, drop, get_or, Option, None, Some, option_map, option_and_then, refl, sym, ap, ap₂, ◌∙◌, subst, arith, append_assoc, zero-add}
 use Rattle.std.specs.List.{IsDistinct, AllByRecursion, find, position_from}
 use Rattle.std.specs.Str.{bytes_eq}
 use Rattle.std.proofs.lemmas.Bool.{true≢false, cases_Bool, eqb-true, eqb-false, eq-eqb}
 use Rattle.std.proofs.lemmas.List.{map-append, get_or_append_left, length_push, length-append, get_or-map, length-map, reverse-append}
 use Rattle.std.proofs.Math.Seq.{get_or-append_seam}
-use Rattle.derive_sources.specs.Numbers.{Item, top_item, items_of, IsBelow, IsTop, Stands, Follow, AreNumbered, path_at, item_at, is_number, is_named, is_child, outer_of, is_set, is_inner_set, first_child, first_set}
+use Rattle.derive_sources.specs.Numbers.{Item, no_item, items_of, IsBelow, IsTop, Stands, Follow, AreNumbered, path_at, item_at, is_number, is_name, outer_of, is_set, set_owner, owner_of, is_owned, first_owned}
 use Rattle.derived_rows.specs.Dependence.{same_path}
 use Rattle.derived_rows.specs.Sources.{source_names, has_name, is_set_named, named_child, kind_at, ancestors}
 use Rattle.derived_rows.proofs.Kept.{kind-last}
@@ -149,6 +150,20 @@ unfolding fits
 fits-nothing [] test = refl
 fits-nothing (t ∷ tests) test = refl
 
+-- the elements round that whose parent has this number
+abbrev pub around : List (Row Step Key) → Option ℕ → List (List Step)
+around all None = []
+around all (Some p) = path_at all p ∷ ancestors (path_at all p)
+
+-- the number is that of an element, where there is one
+abbrev pub IsInside : ℕ → Option ℕ → Type 0
+IsInside n None = ⊤
+IsInside n (Some p) = p < n
+
+abbrev pub depth : Option ℕ → ℕ
+depth None = 0
+depth (Some p) = p + 1
+
 module _ (all : List (Row Step Key)) (items : List Item) (numbered : AreNumbered all items) where
   pub as_many : length (paths_of all) ≡ length items
   as_many = sym (length-map (paths_of all) (source_names all)) ∙ sym (ap (λ l. length l) numbered.names) ∙ length-map items (λ (item : Item). item.names)
@@ -161,7 +176,7 @@ module _ (all : List (Row Step Key)) (items : List Item) (numbered : AreNumbered
 
   pub names_at : (e : ℕ) → e < length items → (item_at items e).names ≡ source_names all (path_at all e)
   names_at e inside =
-      sym (get_or-map (λ (item : Item). item.names) items e (top_item []) None inside)
+      sym (get_or-map (λ (item : Item). item.names) items e no_item None inside)
       ∙ ap (λ l. get_or l e None) numbered.names
       ∙ get_or-map (source_names all) (paths_of all) e [] None (omega (arith, inside, as_many))
 
@@ -186,24 +201,33 @@ module _ (all : List (Row Step Key)) (items : List Item) (numbered : AreNumbered
           ∙ fits-push (exactly same_step (path_at all p)) test (path_at all q) h.step
           ∙ ap₂ (λ a b. a && b) (same-number p q here (omega (arith, h.earlier, inside))) (agree h.step (item_at items e) h.kind h.name)
 
-  named-agree : (name : Written) (s : Step) (item : Item) → item.kind ≡ Some s.kind → item.name ≡ s.name → has_name name s ≡ is_named name item
+  named-agree : (name : Written) (s : Step) (item : Item) → item.kind ≡ Some s.kind → item.name ≡ s.name → has_name name s ≡ is_name name.name item.name
   unfolding has_name
-  named-agree name s item kind same = ap (λ n. not (bytes_eq n []) && bytes_eq name.name n) (sym same)
+  named-agree name s item kind same = ap (is_name name.name) (sym same)
 
-  pub child_found : (p : ℕ) → p < length items → (name : Written) → named_child all name (path_at all p) ≡ option_map (path_at all) (first_child items p name)
-  unfolding named_child first_child
+  pub child_found : (p : ℕ) → p < length items → (name : Written) → named_child all name (path_at all p) ≡ option_map (path_at all) (first_owned items false p name.name)
+  unfolding named_child first_owned
   child_found p here name =
-      find-places (fits (exactly same_step (path_at all p) ++ has_name name ∷ [])) (is_child p name) [] (paths_of all) items as_many
-      (one-below (has_name name) (is_named name) (named-agree name) p here)
+      find-places (fits (exactly same_step (path_at all p) ++ has_name name ∷ [])) (is_owned items false p name.name) [] (paths_of all) items as_many
+      (one-below (has_name name) (λ item. is_name name.name item.name) (named-agree name) p here)
 
-  set-agree : (name : Written) (s : Step) (item : Item) → item.kind ≡ Some s.kind → item.name ≡ s.name → is_set_named name s ≡ (is_set item.kind && is_named name item)
+  set-agree : (name : Written) (s : Step) (item : Item) → item.kind ≡ Some s.kind → item.name ≡ s.name → is_set_named name s ≡ (is_set item.kind && is_name name.name item.name)
   set-agree name s item kind same = ap₂ (λ k n. is_set k && n) (sym kind) (named-agree name s item kind same)
 
-  set-below : (r : ℕ) → r < length items → (name : Written) (e : ℕ) → e < length items → fits (exactly same_step (path_at all r) ++ (λ step. true) ∷ is_set_named name ∷ []) (path_at all e) ≡ is_inner_set items r name (item_at items e)
+  set-below : (r : ℕ) → r < length items → (name : Written) (e : ℕ) → e < length items → fits (exactly same_step (path_at all r) ++ (λ step. true) ∷ is_set_named name ∷ []) (path_at all e) ≡ is_owned items true r name.name (item_at items e)
   set-below r here name e inside =
       ap (λ tests. fits tests (path_at all e)) (sym (append_assoc (exactly same_step (path_at all r)) ((λ step. true) ∷ []) (is_set_named name ∷ [])))
       ∙ at (item_at items e).parent (seat e inside)
+      ∙ moved (is_set (item_at items e).kind)
     where
+      moved : (b : Bool) → (is_number r (outer_of items (item_at items e)) && (b && is_name name.name (item_at items e).name)) ≡ (is_number r (set_owner items b (item_at items e)) && is_name name.name (item_at items e).name)
+      moved true = refl
+      moved false = and_false (is_number r (outer_of items (item_at items e)))
+        where
+          and_false : (b : Bool) → (b && false) ≡ false
+          and_false true = refl
+          and_false false = refl
+
       any : List (Step → Bool)
       any = exactly same_step (path_at all r) ++ (λ step. true) ∷ []
 
@@ -211,7 +235,7 @@ module _ (all : List (Row Step Key)) (items : List Item) (numbered : AreNumbered
       and_true true = refl
       and_true false = refl
 
-      at : (parent : Option ℕ) → Seat (paths_of all) e (path_at all e) (item_at items e) parent → fits (any ++ is_set_named name ∷ []) (path_at all e) ≡ (is_number r (option_and_then (λ q. (item_at items q).parent) parent) && (is_set (item_at items e).kind && is_named name (item_at items e)))
+      at : (parent : Option ℕ) → Seat (paths_of all) e (path_at all e) (item_at items e) parent → fits (any ++ is_set_named name ∷ []) (path_at all e) ≡ (is_number r (option_and_then (λ q. (item_at items q).parent) parent) && (is_set (item_at items e).kind && is_name name.name (item_at items e).name))
       at None h = ap (fits (any ++ is_set_named name ∷ [])) h.0 ∙ fits-nothing any (is_set_named name)
       at (Some q) h =
           ap (fits (any ++ is_set_named name ∷ [])) h.is
@@ -220,10 +244,10 @@ module _ (all : List (Row Step Key)) (items : List Item) (numbered : AreNumbered
           (one-below (λ step. true) (λ item. true) (λ s item a b. refl) r here q (omega (arith, h.earlier, inside)) ∙ and_true (is_number r (item_at items q).parent))
           (set-agree name h.step (item_at items e) h.kind h.name)
 
-  pub set_found : (r : ℕ) → r < length items → (name : Written) → find (fits (exactly same_step (path_at all r) ++ (λ step. true) ∷ is_set_named name ∷ [])) (paths_of all) ≡ option_map (path_at all) (first_set items r name)
-  unfolding first_set
+  pub set_found : (r : ℕ) → r < length items → (name : Written) → find (fits (exactly same_step (path_at all r) ++ (λ step. true) ∷ is_set_named name ∷ [])) (paths_of all) ≡ option_map (path_at all) (first_owned items true r name.name)
+  unfolding first_owned
   set_found r here name =
-      find-places (fits (exactly same_step (path_at all r) ++ (λ step. true) ∷ is_set_named name ∷ [])) (is_inner_set items r name) [] (paths_of all) items as_many (set-below r here name)
+      find-places (fits (exactly same_step (path_at all r) ++ (λ step. true) ∷ is_set_named name ∷ [])) (is_owned items true r name.name) [] (paths_of all) items as_many (set-below r here name)
 
   pub kind_found : (e : ℕ) → e < length items → kind_at (path_at all e) ≡ (item_at items e).kind
   unfolding kind_at
@@ -232,3 +256,25 @@ module _ (all : List (Row Step Key)) (items : List Item) (numbered : AreNumbered
       at : (parent : Option ℕ) → Seat (paths_of all) e (path_at all e) (item_at items e) parent → kind_at (path_at all e) ≡ (item_at items e).kind
       at None h = ap kind_at h.0 ∙ sym h.1
       at (Some q) h = ap kind_at h.is ∙ kind-last (path_at all q) h.step ∙ sym h.kind
+
+  pub ancestors_found : (e : ℕ) → e < length items → ancestors (path_at all e) ≡ around all (item_at items e).parent
+  unfolding ways_down
+  ancestors_found e inside = at (item_at items e).parent (seat e inside)
+    where
+      at : (parent : Option ℕ) → Seat (paths_of all) e (path_at all e) (item_at items e) parent → ancestors (path_at all e) ≡ around all parent
+      at None h = ap ancestors h.0
+      at (Some q) h = ap ancestors h.is ∙ ancestors-push (path_at all q) h.step
+
+  pub earlier : (e p : ℕ) → e < length items → (item_at items e).parent ≡ Some p → p < e
+  earlier e p inside is = at (item_at items e).parent (seat e inside) is
+    where
+      at : (parent : Option ℕ) → Seat (paths_of all) e (path_at all e) (item_at items e) parent → parent ≡ Some p → p < e
+      at None h same = absurd cc
+      at (Some q) h same = let q_is : q ≡ p = cc in subst (λ n. n < e) q_is h.earlier
+
+  pub parent_inside : (e : ℕ) → e < length items → IsInside e (item_at items e).parent
+  parent_inside e inside = at (item_at items e).parent (seat e inside)
+    where
+      at : (parent : Option ℕ) → Seat (paths_of all) e (path_at all e) (item_at items e) parent → IsInside e parent
+      at None h = tt
+      at (Some q) h = h.earlier

@@ -1,5 +1,5 @@
 -- The elements of a description by numbers, in document order; the device is 0.
-use Rattle.std.specs.Prelude.{◌≡◌, ℕ, ◌+◌, ◌<◌, Bool, false, ◌&&◌, not, nat_eq, List, [], ◌∷◌, ◌++◌, map, length, get_or, Option, None, Some, option_and_then, ⊤}
+use Rattle.std.specs.Prelude.{◌≡◌, ℕ, ◌+◌, ◌<◌, Bool, true, false, ◌&&◌, not, nat_eq, List, [], ◌∷◌, ◌++◌, map, length, get_or, Option, None, Some, option_and_then, ⊤}
 use Rattle.std.specs.List.{IsDistinct, position_from}
 use Rattle.std.specs.Str.{bytes_eq}
 use Rattle.derived_rows.specs.Dependence.{same_path}
@@ -10,6 +10,10 @@ use Rattle.svd_model.specs.Stating.{value_of, paths_of}
 use Rattle.svd_model.specs.Steps.{Step, Kind, set, same_kind}
 use Rattle.svd_rows.specs.Forest.{Forest, Tree, leaf, node}
 use Rattle.svd_rows.specs.Rows.{Row}
+
+-- flat rows of a description
+abbrev pub Rows : Type 0
+Rows = List (Row Step Key)
 
 -- an element: the number of its parent, its kind, its written name, and the names that it gives of its source; the
 -- device has no parent, no kind and the empty name
@@ -25,6 +29,10 @@ item_of parent step keys =
 
 abbrev pub top_item : List Key → Item
 top_item keys = record { parent = None; kind = None; name = []; names = value_of stated_source keys }
+
+-- what stands for an element that isn't there
+abbrev pub no_item : Item
+no_item = record { parent = None; kind = None; name = []; names = None }
 
 -- siblings and all below them, the first of which has this number
 unfoldable pub items_in : ℕ → ℕ → Forest Step Key → List Item
@@ -44,7 +52,7 @@ path_at all e = get_or (paths_of all) e []
 
 -- the element of a number
 abbrev pub item_at : List Item → ℕ → Item
-item_at items e = get_or items e (top_item [])
+item_at items e = get_or items e no_item
 
 -- a path that is one step below that of an element before
 pub record IsBelow (before : List (List Step)) (parent : ℕ) (path : List Step) (item : Item) : Type 0 where
@@ -80,30 +88,37 @@ abbrev pub is_number : ℕ → Option ℕ → Bool
 is_number n None = false
 is_number n (Some m) = nat_eq n m
 
--- the item has this written name
-abbrev pub is_named : Written → Item → Bool
-is_named name item = not (bytes_eq item.name []) && bytes_eq name.name item.name
+abbrev pub is_set : Option Kind → Bool
+is_set None = false
+is_set (Some kind) = same_kind set kind
 
--- the item is a child of this name
-abbrev pub is_child : ℕ → Written → Item → Bool
-is_child parent name item = is_number parent item.parent && is_named name item
+-- there is a kind, and it is this one
+abbrev pub is_of_kind : Kind → Option Kind → Bool
+is_of_kind kind None = false
+is_of_kind kind (Some other) = same_kind kind other
 
 -- the number of the parent of an item's parent
 abbrev pub outer_of : List Item → Item → Option ℕ
 outer_of items item = option_and_then (λ parent. (item_at items parent).parent) item.parent
 
-abbrev pub is_set : Option Kind → Bool
-is_set None = false
-is_set (Some kind) = same_kind set kind
+abbrev pub set_owner : List Item → Bool → Item → Option ℕ
+set_owner items true item = outer_of items item
+set_owner items false item = None
 
--- the item is a set of this name, two steps below the element of a number
-abbrev pub is_inner_set : List Item → ℕ → Written → Item → Bool
-is_inner_set items outer name item = is_number outer (outer_of items item) && (is_set item.kind && is_named name item)
+-- the number of the element below which an item is sought by its name: its parent; or, where sets are sought in all
+-- fields of a register, the parent of that, and none for any other item
+abbrev pub owner_of : List Item → Bool → Item → Option ℕ
+owner_of items true item = set_owner items (is_set item.kind) item
+owner_of items false item = item.parent
 
--- the first child of an element that has this name
-unfoldable pub first_child : List Item → ℕ → Written → Option ℕ
-first_child items parent name = position_from (is_child parent name) 0 items
+-- there is a name, and it is this one
+abbrev pub is_name : List ℕ → List ℕ → Bool
+is_name text name = not (bytes_eq name []) && bytes_eq text name
 
--- the first set of this name two steps below an element
-unfoldable pub first_set : List Item → ℕ → Written → Option ℕ
-first_set items outer name = position_from (is_inner_set items outer name) 0 items
+-- the item is sought by this name below the element of a number
+abbrev pub is_owned : List Item → Bool → ℕ → List ℕ → Item → Bool
+is_owned items sets owner text item = is_number owner (owner_of items sets item) && is_name text item.name
+
+-- the first item that is
+unfoldable pub first_owned : List Item → Bool → ℕ → List ℕ → Option ℕ
+first_owned items sets owner text = position_from (is_owned items sets owner text) 0 items

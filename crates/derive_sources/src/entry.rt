@@ -1,5 +1,6 @@
-ghost use Rattle.std.specs.Prelude.{◌≡◌};
-ghost use Rattle.derive_sources.specs.Entries.{kind_of};
+ghost use Rattle.std.specs.Prelude.{◌≡◌, map, option_map};
+ghost use Rattle.derive_sources.specs.Entries.{plain, kind_of};
+ghost use Rattle.derive_sources.specs.Numbers.{item_at, is_set};
 ghost use Rattle.svd_model.specs.Steps.{kind_number, same_kind};
 
 use pac_base::Path;
@@ -53,5 +54,30 @@ impl Kind {
         ensures { result ≡ same_kind (kind_of self) (kind_of other) }
     {
         self.number() == other.number()
+    }
+}
+
+/// The element of a number, or the one of no kind where there is none.
+pub(crate) fn entry_at<'a>(entries: &[Entry<'a>], number: usize) -> Entry<'a>
+    ensures { plain result ≡ item_at (map plain entries.now) number }
+{
+    match entries.get(number) {
+        Some(entry) => *entry,
+        None => Entry {
+            parent: None,
+            kind: None,
+            name: b"",
+            names: None,
+        },
+    }
+}
+
+/// Whether an element is a set of enumerated values.
+pub(crate) fn is_set(kind: Option<Kind>) -> bool
+    ensures { result ≡ is_set (option_map kind_of kind) }
+{
+    match kind {
+        Some(kind) => Kind::Set.is(kind),
+        None => false,
     }
 }

@@ -1,8 +1,11 @@
-ghost use Rattle.std.specs.Prelude.{◌≡◌, IfOk, List, ℕ, Some, [], if◌then◌else◌};
+ghost use Rattle.std.specs.Prelude.{◌≡◌, IfOk, OnOk, List, ℕ, Some, [], map, if◌then◌else◌};
 ghost use Rattle.std.specs.Map.{lookup};
 ghost use Rattle.std.specs.Option.{option_copied};
-ghost use Rattle.derive_sources.specs.Places.{is_place};
+ghost use Rattle.derive_sources.specs.Places.{is_place, Holds, Puts};
+ghost use Rattle.derive_sources.specs.Entries.{plain};
+ghost use Rattle.derive_sources.specs.Numbers.{owner_of, outer_of};
 
+use crate::entry::{Entry, entry_at, is_set};
 use indexmap::IndexMap;
 use pac_base::NoMemory;
 use std::alloc::Global;
@@ -54,4 +57,74 @@ impl<'a> Index<'a> {
         self.held.insert(Place { owner, name }, number)?;
         Ok(())
     }
+}
+
+/// The parent of the parent of an element.
+fn outer_of(entries: &[Entry<'_>], entry: &Entry<'_>) -> Option<usize>
+    ensures { result ≡ outer_of (map plain entries.now) (plain entry.now) }
+{
+    match entry.parent {
+        Some(parent) => entry_at(entries, parent).parent,
+        None => None,
+    }
+}
+
+/// The element below which another is sought by its name: its parent; or, where `sets` are sought in all fields of a
+/// register, that register.
+fn owner_of(entries: &[Entry<'_>], sets: bool, entry: &Entry<'_>) -> Option<usize>
+    ensures { result ≡ owner_of (map plain entries.now) sets (plain entry.now) }
+{
+    if sets {
+        if is_set(entry.kind) {
+            outer_of(entries, entry)
+        } else {
+            None
+        }
+    } else {
+        entry.parent
+    }
+}
+
+/// Puts a number below an element under a name, where there are both.
+fn put<'a>(
+    index: &mut Index<'a>,
+    owner: Option<usize>,
+    name: &'a [u8],
+    number: usize,
+) -> Result<(), NoMemory>
+    ensures { OnOk result (Puts index.old index.new owner name.entry.now number) }
+{
+    match owner {
+        Some(owner) => {
+            if name.is_empty() {
+                return Ok(());
+            }
+            index.set(owner, name, number)
+        }
+        None => Ok(()),
+    }
+}
+
+/// The elements by their names and those below which they are sought: their parents; or, of `sets`, the registers
+/// round their fields. The first of a name counts.
+pub(crate) fn indexed<'a>(
+    alloc: Global,
+    entries: &[Entry<'a>],
+    sets: bool,
+) -> Result<Index<'a>, NoMemory>
+    ensures { IfOk result (Holds (map plain entries.now) sets) }
+{
+    let mut index = Index::new(alloc);
+    let mut number = entries.len();
+    while number > 0 {
+        number -= 1;
+        let entry = entry_at(entries, number);
+        put(
+            &mut index,
+            owner_of(entries, sets, &entry),
+            entry.name,
+            number,
+        )?;
+    }
+    Ok(index)
 }

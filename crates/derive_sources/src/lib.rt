@@ -5,6 +5,7 @@ mod entry;
 mod index;
 mod laws;
 mod listing;
+mod source;
 
 pub use entry::{Entry, Kind};
 pub use listing::entries_of;
