@@ -6,15 +6,17 @@ use Rattle.std.specs.Str.{bytes_eq}
 use Rattle.std.proofs.lemmas.Bool.{true≢false, cases_Bool, eqb-true, eqb-false, eq-eqb}
 use Rattle.std.proofs.lemmas.List.{map-append, get_or_append_left, length_push, length-append, get_or-map, length-map, reverse-append}
 use Rattle.std.proofs.Math.Seq.{get_or-append_seam}
-use Rattle.derive_sources.specs.Numbers.{Item, no_item, items_of, IsBelow, IsTop, Stands, Follow, AreNumbered, path_at, item_at, is_number, is_name, outer_of, is_set, set_owner, owner_of, is_owned, first_owned}
+use Rattle.derive_sources.specs.Numbers.{Item, no_item, items_of, IsBelow, IsTop, Stands, Follow, AreNumbered, path_at, item_at, is_number, is_name, is_of_kind, outer_of, is_set, set_owner, owner_of, is_owned, first_owned}
 use Rattle.derived_rows.specs.Dependence.{same_path}
-use Rattle.derived_rows.specs.Sources.{source_names, has_name, is_set_named, named_child, kind_at, ancestors}
+use Rattle.derived_rows.specs.Sources.{source_names, has_name, is_set_named, named_child, followed, of_kind, reached, second_try, source_among, sought_from, source_of, kind_at, ancestors}
 use Rattle.derived_rows.proofs.Kept.{kind-last}
 use Rattle.derived_rows.proofs.Paths.{same_path-tells}
 use Rattle.pac_base.specs.declared.path.Step.{Step as Written}
 use Rattle.svd_model.specs.Keys.{Key}
-use Rattle.svd_model.specs.Stating.{paths_of, ways_down}
-use Rattle.svd_model.specs.Steps.{Step, Kind, set, same_kind, same_step}
+use Rattle.svd_model.specs.Properties.{nearest}
+use Rattle.svd_model.specs.Stating.{paths_of, ways_down, is_of}
+use Rattle.svd_model.specs.Steps.{Step, Kind, peripheral, cluster, register, field, set, value, same_kind, same_step}
+use Rattle.svd_rows.specs.LookUps.{ends_with}
 use Rattle.svd_rows.specs.Paths.{fits, exactly}
 use Rattle.svd_rows.specs.Rows.{Row}
 
@@ -278,3 +280,124 @@ module _ (all : List (Row Step Key)) (items : List Item) (numbered : AreNumbered
       at : (parent : Option ℕ) → Seat (paths_of all) e (path_at all e) (item_at items e) parent → IsInside e parent
       at None h = tt
       at (Some q) h = h.earlier
+
+  -- ---- names that are followed
+
+  place-inside : (of : Item → Bool) (n : ℕ) (xs : List Item) (k : ℕ) → position_from of n xs ≡ Some k → k < n + length xs
+  place-inside of n [] k e = absurd cc
+  place-inside of n (x ∷ xs) k e = at (of x) (place-inside of (n + 1) xs k) e
+    where
+      at : (b : Bool) → (position_from of (n + 1) xs ≡ Some k → k < n + 1 + length xs) → cond b (Some n) (position_from of (n + 1) xs) ≡ Some k → k < n + suc (length xs)
+      at true again p = let same : n ≡ k = cc in omega (arith, same)
+      at false again p = omega (arith, again p)
+
+  pub owned_inside : (sets : Bool) (owner : ℕ) (text : List ℕ) (k : ℕ) → first_owned items sets owner text ≡ Some k → k < length items
+  unfolding first_owned
+  owned_inside sets owner text k e = let inside = place-inside (is_owned items sets owner text) 0 items k e in omega (arith, inside)
+
+  -- one name more is followed
+  pub step_on : (p : ℕ) → p < length items → (name : Written) (names : List Written) (found : Option ℕ) → found ≡ first_owned items false p name.name → followed all (name ∷ names) (path_at all p) ≡ option_and_then (followed all names) (option_map (path_at all) found)
+  unfolding followed
+  step_on p inside name names found is = ap (option_and_then (followed all names)) (child_found p inside name ∙ ap (option_map (path_at all)) (sym is))
+
+  ends-kind : (kind : Kind) (path : List Step) → ends_with (is_of kind) path ≡ is_of_kind kind (kind_at path)
+  unfolding kind_at ends_with
+  ends-kind kind [] = refl
+  ends-kind kind (s ∷ []) = refl
+  ends-kind kind (s ∷ t ∷ path) = ends-kind kind (t ∷ path)
+
+  -- what is reached, where it is told what is followed
+  pub reached_by : (kind : Kind) (names : List Written) (from : ℕ) (found : Option ℕ) → (names ≡ [] → ⊥) → option_map (path_at all) found ≡ followed all names (path_at all from) → reached all kind names (path_at all from) ≡ option_and_then (of_kind kind) (option_map (path_at all) found)
+  unfolding reached
+  reached_by kind [] from found some is = absurd (some refl)
+  reached_by kind (name ∷ names) from found some is = ap (option_and_then (of_kind kind)) (sym is)
+
+  pub kind_tested : (kind : Kind) (e : ℕ) (b : Bool) → e < length items → b ≡ is_of_kind kind (item_at items e).kind → of_kind kind (path_at all e) ≡ cond b (Some (path_at all e)) None
+  unfolding of_kind
+  kind_tested kind e b inside is =
+      ap (λ c. cond c (Some (path_at all e)) None) (ends-kind kind (path_at all e) ∙ ap (is_of_kind kind) (kind_found e inside) ∙ sym is)
+
+  -- ---- the second try
+
+  pub set_tried : (e : ℕ) → e < length items → (name : Written) → second_try all set (name ∷ []) (ancestors (path_at all e)) ≡ option_map (path_at all) (option_and_then (λ r. first_owned items true r name.name) (outer_of items (item_at items e)))
+  unfolding second_try
+  set_tried e inside name = ap (second_try all set (name ∷ [])) (ancestors_found e inside) ∙ at (item_at items e).parent (parent_inside e inside)
+    where
+      outer : (f : ℕ) (r : Option ℕ) → IsInside f r → f < length items → second_try all set (name ∷ []) (path_at all f ∷ around all r) ≡ option_map (path_at all) (option_and_then (λ r. first_owned items true r name.name) r)
+      outer f None below here = refl
+      outer f (Some r) below here = set_found r (omega (arith, below, here)) name
+
+      at : (parent : Option ℕ) → IsInside e parent → second_try all set (name ∷ []) (around all parent) ≡ option_map (path_at all) (option_and_then (λ r. first_owned items true r name.name) (option_and_then (λ p. (item_at items p).parent) parent))
+      at None below = refl
+      at (Some f) below =
+          let here : f < length items = omega (arith, below, inside) in
+          ap (λ rest. second_try all set (name ∷ []) (path_at all f ∷ rest)) (ancestors_found f here)
+          ∙ outer f (item_at items f).parent (parent_inside f here) here
+
+  pub no_set : (kind : Kind) (names : List Written) (round : List (List Step)) → same_kind kind set ≡ false → second_try all kind names round ≡ None
+  unfolding second_try
+  no_set peripheral names round e = refl
+  no_set cluster names round e = refl
+  no_set register names round e = refl
+  no_set field names round e = refl
+  no_set set names round e = absurd (true≢false e)
+  no_set value names round e = refl
+
+  pub not_one : (kind : Kind) (names : List Written) (round : List (List Step)) → (length names ≡ 1 → ⊥) → second_try all kind names round ≡ None
+  unfolding second_try
+  not_one set [] round e = refl
+  not_one set (name ∷ []) round e = absurd (e refl)
+  not_one set (name ∷ next ∷ names) round e = refl
+  not_one peripheral names round e = refl
+  not_one cluster names round e = refl
+  not_one register names round e = refl
+  not_one field names round e = refl
+  not_one value names round e = refl
+
+  -- the source, where kind and names are told
+  pub source_told : (e : ℕ) → e < length items → source_of all (path_at all e) ≡ sought_from all (path_at all e) (item_at items e).kind (item_at items e).names
+  unfolding source_of
+  source_told e inside = ap₂ (sought_from all (path_at all e)) (kind_found e inside) (sym (names_at e inside))
+
+  -- what the source is, where there are a kind and names
+  pub source_kindless : (e : ℕ) → e < length items → (item_at items e).kind ≡ None → source_of all (path_at all e) ≡ None
+  source_kindless e inside none = source_told e inside ∙ ap (λ k. sought_from all (path_at all e) k (item_at items e).names) none
+
+  pub source_nameless : (e : ℕ) → e < length items → (item_at items e).names ≡ None → source_of all (path_at all e) ≡ None
+  source_nameless e inside none = source_told e inside ∙ at (item_at items e).kind ∙ refl
+    where
+      at : (kind : Option Kind) → sought_from all (path_at all e) kind (item_at items e).names ≡ None
+      at None = refl
+      at (Some kind) = ap (sought_from all (path_at all e) (Some kind)) none
+
+  pub source_sought : (e : ℕ) (kind : Kind) (names : List Written) → e < length items → (item_at items e).kind ≡ Some kind → (item_at items e).names ≡ Some names → source_of all (path_at all e) ≡ source_among all kind names (ancestors (path_at all e))
+  source_sought e kind names inside of given = source_told e inside ∙ ap₂ (sought_from all (path_at all e)) of given
+
+  -- the parent of an element is within the elements
+  pub inside_more : (e n : ℕ) (parent : Option ℕ) → e < length items → length items ≡ n → parent ≡ (item_at items e).parent → IsInside n parent
+  inside_more e n parent inside long is = subst (IsInside n) (sym is) (at (item_at items e).parent (parent_inside e inside))
+    where
+      at : (p : Option ℕ) → IsInside e p → IsInside n p
+      at None h = tt
+      at (Some p) h = omega (arith, h, inside, long)
+
+  -- it is less deep
+  pub less_deep : (e : ℕ) (parent : Option ℕ) → e < length items → parent ≡ (item_at items e).parent → depth parent < e + 1
+  less_deep e parent inside is = subst (λ p. depth p < e + 1) (sym is) (at (item_at items e).parent (parent_inside e inside))
+    where
+      at : (p : Option ℕ) → IsInside e p → depth p < e + 1
+      at None h = omega arith
+      at (Some p) h = omega (arith, h)
+
+  -- where nothing is reached from the nearest, the others count
+  pub nearer : (test : List Step → Option (List Step)) (round : Option ℕ) (from : ℕ) (parent : Option ℕ) → round ≡ Some from → from < length items → test (path_at all from) ≡ None → parent ≡ (item_at items from).parent → nearest (map test (around all parent)) ≡ nearest (map test (around all round))
+  nearer test round from parent is inside none parent_is =
+      ap (λ p. nearest (map test (around all p))) parent_is
+      ∙ sym (ap (λ paths. nearest (map test paths)) (ancestors_found from inside))
+      ∙ sym (ap (λ o. nearest (o ∷ map test (ancestors (path_at all from)))) none)
+      ∙ sym (ap (λ r. nearest (map test (around all r))) is)
+
+  pub reached_nothing : (kind : Kind) (names : List Written) (path : List Step) → length names < 1 → reached all kind names path ≡ None
+  unfolding reached
+  reached_nothing kind [] path few = refl
+  reached_nothing kind (name ∷ names) path few = absurd (omega (arith, few))

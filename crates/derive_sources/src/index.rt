@@ -60,7 +60,7 @@ impl<'a> Index<'a> {
 }
 
 /// The parent of the parent of an element.
-fn outer_of(entries: &[Entry<'_>], entry: &Entry<'_>) -> Option<usize>
+pub(crate) fn outer_of(entries: &[Entry<'_>], entry: &Entry<'_>) -> Option<usize>
     ensures { result ≡ outer_of (map plain entries.now) (plain entry.now) }
 {
     match entry.parent {

@@ -15,3 +15,6 @@ invariant-loop-round g l = record {
 
 abbrev pub decreases-loop-round : goal.decreases-loop-round
 decreases-loop-round g l = depth l.round
+
+abbrev pub ghost-reached : goal.ghost-reached
+ghost-reached g a = g.all
