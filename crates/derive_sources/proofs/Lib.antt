@@ -2,3 +2,4 @@ pub mod Numbering
 pub mod Seats
 pub mod Listed
 pub mod Indexes
+pub mod Told

@@ -1,11 +1,15 @@
-// The elements of a description by numbers, and the source of each.
+// The elements of a description by numbers, in document order, and the source of each: names are followed by an index,
+// and not by going through siblings.
 #![tactic(auto)]
 
 mod entry;
+mod finding;
 mod index;
 mod laws;
 mod listing;
 mod source;
 
 pub use entry::{Entry, Kind};
+pub use finding::{SourceFault, sources};
+pub use laws::numbers_law;
 pub use listing::entries_of;
