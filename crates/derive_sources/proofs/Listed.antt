@@ -1,18 +1,15 @@
 -- What is listed of an element, and of siblings one after the other.
-use Rattle.std.proofs.Common.{◌≡◌, ℕ, suc, ◌+◌, ◌<◌, List, [], ◌∷◌, ◌++◌, map, length, drop, get_or, Option, None, Some, refl, sym, ap, ap₂, ◌∙◌, subst, arith, append_assoc, append-nil}
+use Rattle.std.proofs.Common.{◌≡◌, ℕ, ◌+◌, List, [], ◌∷◌, ◌++◌, map, length, Option, None, Some, refl, sym, ap, ap₂, ◌∙◌, append_assoc, append-nil}
 use Rattle.std.proofs.lemmas.List.{length-append, length_push, length-map}
 use Rattle.derive_sources.specs.declared.entry.Entry.{Entry}
-use Rattle.derive_sources.specs.Entries.{plain, with_rest, Lists, ListsAll, set_under, cluster_under, register_under}
+use Rattle.derive_sources.specs.Entries.{plain, with_rest, Lists, ListsAll}
 use Rattle.derive_sources.specs.Numbers.{Item, item_of, items_in, items_of}
 use Rattle.derived_rows.specs.Sources.{stated_source}
 use Rattle.pac_base.specs.declared.path.Step.{Step as Written}
-use Rattle.svd_model.specs.declared.device.Child.{Child}
-use Rattle.svd_model.specs.declared.device.Child.TheVariants.{Cluster, Register}
 use Rattle.svd_model.specs.declared.device.Cluster.{Cluster as ClusterOf, out-Cluster}
 use Rattle.svd_model.specs.declared.device.Child.TheOpen.{Cluster-F}
 use Rattle.svd_model.specs.declared.device.Device.{Device}
 use Rattle.svd_model.specs.declared.device.Field.{Field}
-use Rattle.svd_model.specs.declared.device.Item.{Item as ItemOf, out-Item}
 use Rattle.svd_model.specs.declared.device.Peripheral.{Peripheral}
 use Rattle.svd_model.specs.declared.device.Register.{Register as RegisterOf}
 use Rattle.svd_model.specs.declared.device.Values.{Values}
@@ -20,11 +17,11 @@ use Rattle.svd_model.specs.declared.device.Variant.{Variant}
 use Rattle.svd_model.specs.Keys.{Key, rank, derived_from}
 use Rattle.svd_model.specs.Stating.{value_of}
 use Rattle.svd_model.specs.Steps.{Step, Kind}
-use Rattle.svd_model.specs.Trees.{numbered, peripheral_under, device_tree, child_tree, cluster_tree, item_under, step_of, device_places, peripheral_places, cluster_places, register_places, field_places, set_places, value_places}
+use Rattle.svd_model.specs.Trees.{numbered, peripheral_under, device_tree, cluster_tree, device_places, peripheral_places, cluster_places, register_places, field_places, set_places, value_places}
 use Rattle.svd_model.proofs.Placed.{device-placed, peripheral-placed, cluster-placed, register-placed, field-placed, set-placed, value-placed}
 use Rattle.svd_model.proofs.Stated.{found, stated_back}
-use Rattle.svd_model.proofs.Trees.{child_tree-cluster, child_tree-register, item_under-is, cluster_tree-is}
-use Rattle.svd_rows.specs.Forest.{Forest, Tree, leaf, node, siblings}
+use Rattle.svd_model.proofs.Trees.{cluster_tree-is}
+use Rattle.svd_rows.specs.Forest.{Tree, leaf, siblings}
 use Rattle.svd_rows.specs.Ranks.{stated}
 
 -- an element that was listed, and all below it

@@ -1,13 +1,13 @@
 -- The elements of a tree have the numbers of document order.
-use Rattle.std.proofs.Common.{◌≡◌, inl, inr, ℕ, suc, ◌+◌, ◌<◌, Bool, true, false, ◌&&◌, ◌||◌, List, [], ◌∷◌, ◌++◌, map, length, drop, get_or, Option, None, Some, refl, sym, ap, ap₂, ◌∙◌, subst, arith, append_assoc, append-nil, map-id}
+use Rattle.std.proofs.Common.{◌≡◌, inl, inr, ℕ, suc, ◌+◌, ◌<◌, Bool, true, false, ◌||◌, List, [], ◌∷◌, ◌++◌, map, length, drop, get_or, Option, refl, sym, ap, ap₂, ◌∙◌, subst, arith, append_assoc, append-nil, map-id}
 use Rattle.std.specs.List.{IsDistinct, AllByRecursion}
 use Rattle.std.specs.Set.{is_member}
 use Rattle.std.proofs.lemmas.Bool.{true≢false, cases_Bool}
 use Rattle.std.proofs.lemmas.List.{map-append, get_or_append_left, length_push, length-append}
 use Rattle.std.proofs.Math.Seq.{get_or-append_seam}
-use Rattle.derive_sources.specs.Numbers.{Item, item_of, top_item, items_in, items_of, IsBelow, Stands, Follow, AreNumbered}
+use Rattle.derive_sources.specs.Numbers.{Item, items_in, items_of, Follow, AreNumbered}
 use Rattle.derived_rows.specs.Dependence.{same_path}
-use Rattle.derived_rows.specs.Sources.{stated_source, source_names}
+use Rattle.derived_rows.specs.Sources.{stated_source}
 use Rattle.derived_rows.proofs.Kept.{drop-front}
 use Rattle.derived_rows.proofs.Paths.{same_path-tells, member-head, member-tail}
 use Rattle.pac_base.specs.declared.path.Step.{Step as Written}
@@ -17,12 +17,11 @@ use Rattle.svd_model.specs.Steps.{Step, same_step}
 use Rattle.svd_model.specs.Visits.{Visit, visit_at, visits_of, visits}
 use Rattle.svd_model.proofs.Steps.{same_step-tells}
 use Rattle.svd_model.proofs.Walking.{walk-rows}
-use Rattle.svd_rows.specs.Elements.{IsDistinct as AreDistinct, IsAbsent}
+use Rattle.svd_rows.specs.Elements.{IsDistinct as AreDistinct}
 use Rattle.svd_rows.specs.Forest.{Forest, Tree, leaf, node, steps}
 use Rattle.svd_rows.specs.LookUps.{keys_of}
-use Rattle.svd_rows.specs.Paths.{fits, exactly}
-use Rattle.svd_rows.specs.Rows.{Row, rows}
-use Rattle.svd_rows.proofs.Lists.{map-map, map_agree}
+use Rattle.svd_rows.specs.Rows.{rows}
+use Rattle.svd_rows.proofs.Lists.{map-map}
 use Rattle.svd_rows.proofs.LookUps.{keys_of-rows}
 
 -- the paths of siblings and of all below them, whose parent has this path
@@ -73,9 +72,9 @@ follow-in before parent n path leaf long earlier is = tt
 follow-in before parent n path (node s ks c g) long earlier is = (
   record { step = s; earlier = omega (arith, long, earlier); is = ap (λ p. p ++ s ∷ []) (sym is); kind = refl; name = refl },
   follow-append (before ++ here ∷ []) (paths_in here c) (paths_in path g) (items_in n (n + 1) c) (items_in parent next g)
-  (follow-in (before ++ here ∷ []) n (n + 1) here c (length_push before here ∙ ap (λ k. k + 1) long) (omega arith) (ap (λ k. get_or (before ++ here ∷ []) k []) (sym long) ∙ get_or-append_seam before here [] []))
-  (follow-in ((before ++ here ∷ []) ++ paths_in here c) parent next path g long_all (omega (arith, earlier))
-  (get_or_append_left (before ++ here ∷ []) (paths_in here c) [] parent (omega (arith, length_push before here, long, earlier)) ∙ get_or_append_left before (here ∷ []) [] parent (omega (arith, long, earlier)) ∙ is)),
+      (follow-in (before ++ here ∷ []) n (n + 1) here c (length_push before here ∙ ap (λ k. k + 1) long) (omega arith) (ap (λ k. get_or (before ++ here ∷ []) k []) (sym long) ∙ get_or-append_seam before here [] []))
+      (follow-in ((before ++ here ∷ []) ++ paths_in here c) parent next path g long_all (omega (arith, earlier))
+      (get_or_append_left (before ++ here ∷ []) (paths_in here c) [] parent (omega (arith, length_push before here, long, earlier)) ∙ get_or_append_left before (here ∷ []) [] parent (omega (arith, long, earlier)) ∙ is)),
 )
   where
     here : List Step
@@ -113,8 +112,8 @@ pass path leaf = tt
 pass path (node s ks c g) = (
   record { step = s; rest = []; there = member-head same_step same_step-tells s (steps g); is = refl },
   each-append (Passes path (s ∷ steps g)) (paths_in (path ++ s ∷ []) c) (paths_in path g)
-  (each-weaker (Passes (path ++ s ∷ []) (steps c)) (Passes path (s ∷ steps g)) (λ q p. record { step = s; rest = p.step ∷ p.rest; there = member-head same_step same_step-tells s (steps g); is = p.is ∙ append_assoc path (s ∷ []) (p.step ∷ p.rest) }) (paths_in (path ++ s ∷ []) c) (pass (path ++ s ∷ []) c))
-  (each-weaker (Passes path (steps g)) (Passes path (s ∷ steps g)) (λ q p. record { step = p.step; rest = p.rest; there = member-tail same_step same_step-tells s (steps g) p.step p.there; is = p.is }) (paths_in path g) (pass path g)),
+      (each-weaker (Passes (path ++ s ∷ []) (steps c)) (Passes path (s ∷ steps g)) (λ q p. record { step = s; rest = p.step ∷ p.rest; there = member-head same_step same_step-tells s (steps g); is = p.is ∙ append_assoc path (s ∷ []) (p.step ∷ p.rest) }) (paths_in (path ++ s ∷ []) c) (pass (path ++ s ∷ []) c))
+      (each-weaker (Passes path (steps g)) (Passes path (s ∷ steps g)) (λ q p. record { step = p.step; rest = p.rest; there = member-tail same_step same_step-tells s (steps g) p.step p.there; is = p.is }) (paths_in path g) (pass path g)),
 )
 
 same-first : (path : List Step) (s t : Step) (a b : List Step) → path ++ (s ∷ a) ≡ path ++ (t ∷ b) → s ≡ t
@@ -139,12 +138,12 @@ unfolding paths_in IsDistinct AreDistinct
 distinct-in path leaf h = tt
 distinct-in path (node s ks c g) h = (
   each-append (λ y. same_path here y ≡ false) (paths_in here c) (paths_in path g)
-  (each-weaker (Passes here (steps c)) (λ y. same_path here y ≡ false) (λ y p. apart here y (λ e. longer here p.step p.rest (e ∙ p.is))) (paths_in here c) (pass here c))
-  (each-weaker (Passes path (steps g)) (λ y. same_path here y ≡ false) (λ y p. apart here y (λ e. absent-apart s p.step (steps g) h.0 p.there (same-first path s p.step [] p.rest (e ∙ p.is)))) (paths_in path g) (pass path g)),
+      (each-weaker (Passes here (steps c)) (λ y. same_path here y ≡ false) (λ y p. apart here y (λ e. longer here p.step p.rest (e ∙ p.is))) (paths_in here c) (pass here c))
+      (each-weaker (Passes path (steps g)) (λ y. same_path here y ≡ false) (λ y p. apart here y (λ e. absent-apart s p.step (steps g) h.0 p.there (same-first path s p.step [] p.rest (e ∙ p.is)))) (paths_in path g) (pass path g)),
   distinct-append (paths_in here c) (paths_in path g) (distinct-in here c h.1) (distinct-in path g h.2)
-  (each-weaker (Passes here (steps c)) (λ x. AllByRecursion (λ y. same_path x y ≡ false) (paths_in path g))
-  (λ x q. each-weaker (Passes path (steps g)) (λ y. same_path x y ≡ false) (λ y p. apart x y (λ e. absent-apart s p.step (steps g) h.0 p.there (same-first path s p.step (q.step ∷ q.rest) p.rest (sym (append_assoc path (s ∷ []) (q.step ∷ q.rest)) ∙ sym q.is ∙ e ∙ p.is)))) (paths_in path g) (pass path g))
-  (paths_in here c) (pass here c)),
+      (each-weaker (Passes here (steps c)) (λ x. AllByRecursion (λ y. same_path x y ≡ false) (paths_in path g))
+      (λ x q. each-weaker (Passes path (steps g)) (λ y. same_path x y ≡ false) (λ y p. apart x y (λ e. absent-apart s p.step (steps g) h.0 p.there (same-first path s p.step (q.step ∷ q.rest) p.rest (sym (append_assoc path (s ∷ []) (q.step ∷ q.rest)) ∙ sym q.is ∙ e ∙ p.is)))) (paths_in path g) (pass path g))
+      (paths_in here c) (pass here c)),
 )
   where
     here : List Step

@@ -1,12 +1,11 @@
 -- Look-ups of elements by their numbers are look-ups by paths.
 use Rattle.std.specs.Prelude.{⊤}
-use Rattle.std.proofs.Common.{◌≡◌, inl, inr, ℕ, zero, suc, ◌+◌, ◌<◌, Bool, true, false, ◌&&◌, not, cond, nat_eq, List, [], ◌∷◌, ◌++◌, map, reverse, length, drop, get_or, Option, None, Some, option_map, option_and_then, refl, sym, ap, ap₂, ◌∙◌, subst, arith, append_assoc, zero-add}
+use Rattle.std.proofs.Common.{◌≡◌, inl, inr, ℕ, zero, suc, ◌+◌, ◌<◌, Bool, true, false, ◌&&◌, cond, nat_eq, List, [], ◌∷◌, ◌++◌, map, reverse, length, drop, get_or, Option, None, Some, option_map, option_and_then, refl, sym, ap, ap₂, ◌∙◌, subst, arith, append_assoc, zero-add}
 use Rattle.std.specs.List.{IsDistinct, AllByRecursion, find, position_from}
-use Rattle.std.specs.Str.{bytes_eq}
-use Rattle.std.proofs.lemmas.Bool.{true≢false, cases_Bool, eqb-true, eqb-false, eq-eqb}
-use Rattle.std.proofs.lemmas.List.{map-append, get_or_append_left, length_push, length-append, get_or-map, length-map, reverse-append}
+use Rattle.std.proofs.lemmas.Bool.{true≢false, cases_Bool, eqb-true, eqb-false}
+use Rattle.std.proofs.lemmas.List.{map-append, get_or_append_left, length_push, get_or-map, length-map, reverse-append}
 use Rattle.std.proofs.Math.Seq.{get_or-append_seam}
-use Rattle.derive_sources.specs.Numbers.{Item, no_item, items_of, IsBelow, IsTop, Stands, Follow, AreNumbered, path_at, item_at, is_number, is_name, is_of_kind, outer_of, is_set, set_owner, owner_of, is_owned, first_owned}
+use Rattle.derive_sources.specs.Numbers.{Item, no_item, IsTop, Stands, Follow, AreNumbered, path_at, item_at, is_number, is_name, is_of_kind, outer_of, is_set, set_owner, is_owned, first_owned}
 use Rattle.derived_rows.specs.Dependence.{same_path}
 use Rattle.derived_rows.specs.Sources.{source_names, has_name, is_set_named, named_child, followed, of_kind, reached, second_try, source_among, sought_from, source_of, kind_at, ancestors}
 use Rattle.derived_rows.proofs.Kept.{kind-last}

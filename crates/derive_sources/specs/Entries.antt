@@ -1,5 +1,5 @@
 -- The elements that the code lists, as the items that they are.
-use Rattle.std.specs.Prelude.{◌≡◌, ℕ, List, ◌∷◌, ◌++◌, map, length, Option, None, Some, option_map}
+use Rattle.std.specs.Prelude.{◌≡◌, ℕ, List, ◌++◌, map, length, option_map}
 use Rattle.derive_sources.specs.declared.entry.Entry.{Entry}
 use Rattle.derive_sources.specs.declared.entry.Kind.{Kind as CodeKind}
 use Rattle.derive_sources.specs.declared.entry.Kind.TheVariants.{Peripheral, Cluster, Register, Field, Set, Value}

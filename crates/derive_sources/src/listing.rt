@@ -188,11 +188,7 @@ fn add_cluster<'a>(
 }
 
 #[cycle(list)]
-fn add_item<'a>(
-    parent: usize,
-    item: &'a Item,
-    entries: &mut Vec<Entry<'a>>,
-) -> Result<(), NoMemory>
+fn add_item<'a>(parent: usize, item: &'a Item, entries: &mut Vec<Entry<'a>>) -> Result<(), NoMemory>
     ensures { OnOk result (Lists entries.old.items entries.new.items parent (item_under item.now)) }
 {
     match &item.child {

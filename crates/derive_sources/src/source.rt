@@ -109,12 +109,7 @@ fn nearest(
 }
 
 /// The first set of a name among the fields of the register round a set.
-fn set_named(
-    entries: &[Entry<'_>],
-    sets: &Index<'_>,
-    name: &Step,
-    number: usize,
-) -> Option<usize>
+fn set_named(entries: &[Entry<'_>], sets: &Index<'_>, name: &Step, number: usize) -> Option<usize>
     ghost all: { Rows }
     requires numbered { AreNumbered all (map plain entries.now) }
     requires sets { Holds (map plain entries.now) true sets.now }

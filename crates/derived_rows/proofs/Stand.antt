@@ -1,6 +1,6 @@
 -- What an element depends on are elements.
 use Rattle.std.specs.Prelude.{⊤}
-use Rattle.std.proofs.Common.{◌≡◌, inl, inr, Bool, true, false, cond, List, [], ◌∷◌, ◌++◌, map, filter, filter_map, length, drop, Option, None, Some, option_map, option_and_then, refl, sym, ap, ◌∙◌, subst}
+use Rattle.std.proofs.Common.{◌≡◌, inl, inr, Bool, true, false, cond, List, [], ◌∷◌, ◌++◌, map, filter, filter_map, length, drop, Option, None, Some, option_and_then, refl, sym, ap, ◌∙◌, subst}
 use Rattle.std.specs.List.{find, cons_option}
 use Rattle.std.specs.Option.{option_or}
 use Rattle.std.specs.Set.{is_member}

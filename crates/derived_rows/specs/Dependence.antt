@@ -1,5 +1,5 @@
 -- Which elements another depends on when it is derived, and circles of that (this project's own rule).
-use Rattle.std.specs.Prelude.{◌≡◌, Bool, true, List, [], ◌∷◌, ◌++◌, map, Option, None, Some, is_some, filter}
+use Rattle.std.specs.Prelude.{◌≡◌, Bool, true, List, [], ◌∷◌, ◌++◌, Option, None, Some, is_some, filter}
 use Rattle.std.specs.List.{AllByRecursion}
 use Rattle.std.specs.Set.{is_member}
 use Rattle.derived_rows.specs.Sources.{child_paths, source_names, source_of}

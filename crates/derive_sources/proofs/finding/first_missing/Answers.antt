@@ -1,4 +1,4 @@
-use Rattle.std.proofs.Common.{◌≡◌, ◌∙◌, map, length, sym, arith}
+use Rattle.std.proofs.Common.{◌∙◌, map, sym, arith}
 use Rattle.std.proofs.lemmas.List.{length-map}
 use Rattle.derive_sources.specs.Entries.{plain}
 use Rattle.derive_sources.proofs.Seats.{as_many}

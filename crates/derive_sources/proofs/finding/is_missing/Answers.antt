@@ -1,5 +1,4 @@
-use Rattle.std.proofs.Common.{◌≡◌, ◌∙◌, map, length, None, Some, option_map, sym, ap, arith}
-use Rattle.std.specs.Option.{is_none}
+use Rattle.std.proofs.Common.{◌∙◌, map, option_map, sym, ap, arith}
 use Rattle.std.proofs.lemmas.List.{length-map}
 use Rattle.derive_sources.specs.Entries.{plain}
 use Rattle.derive_sources.specs.Numbers.{Item}

@@ -1,5 +1,5 @@
 -- What is listed, and what is left, is all.
-use Rattle.std.proofs.Common.{◌≡◌, map, drop}
+use Rattle.std.proofs.Common.{◌≡◌, map}
 use Rattle.derive_sources.specs.Entries.{with_rest}
 use Rattle.svd_model.specs.Trees.{field_under}
 use Rattle.svd_rows.specs.Forest.{siblings}

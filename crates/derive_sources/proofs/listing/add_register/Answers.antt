@@ -1,8 +1,7 @@
-use Rattle.std.proofs.Common.{arith, ◌∙◌, map, sym, ap}
+use Rattle.std.proofs.Common.{arith, ◌∙◌, sym}
 use Rattle.indexmap.proofs.MapLemmas.{OnOk-map}
 use Rattle.derive_sources.proofs.Listed.{grown, register-names}
-use Rattle.derive_sources.specs.Entries.{with_rest, register_under}
-
+use Rattle.derive_sources.specs.Entries.{register_under}
 use Rattle.derive_sources.proofs.listing.add_register.Goals as goal
 
 pub returns : goal.returns

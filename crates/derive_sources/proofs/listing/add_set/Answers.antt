@@ -1,4 +1,4 @@
-use Rattle.std.proofs.Common.{arith, ◌∙◌, ◌≡◌, map, sym, ap}
+use Rattle.std.proofs.Common.{arith, ◌∙◌, map, sym, ap}
 use Rattle.indexmap.proofs.MapLemmas.{OnOk-map}
 use Rattle.derive_sources.proofs.Listed.{grown, set-names}
 use Rattle.derive_sources.specs.Entries.{with_rest, set_under}

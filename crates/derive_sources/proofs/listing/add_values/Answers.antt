@@ -1,9 +1,8 @@
-use Rattle.std.proofs.Common.{◌≡◌, ◌+◌, ◌∙◌, map, drop, None, refl, sym, ap}
+use Rattle.std.proofs.Common.{◌+◌, ◌∙◌, map, drop, None, refl, sym, ap}
 use Rattle.derive_sources.proofs.Listed.{grown, lists_none, one_placed, none_placed, value-names}
 use Rattle.svd_model.proofs.SoughtKeys.{from_place, drop_past}
 use Rattle.svd_model.specs.Steps.{value}
 use Rattle.svd_model.specs.Trees.{value_tree}
-use Rattle.svd_rows.specs.Forest.{leaf}
 use Rattle.derive_sources.proofs.listing.add_values.Goals as goal
 
 pub loop-variant-preserved : goal.loop-variant-preserved

@@ -1,4 +1,4 @@
-use Rattle.std.proofs.Common.{◌≡◌, ◌<◌, ◌+◌, ◌∷◌, ◌∙◌, map, drop, length, Option, None, Some, option_map, option_and_then, sym, ap, refl, arith}
+use Rattle.std.proofs.Common.{◌+◌, ◌∙◌, map, drop, option_map, option_and_then, sym, ap, arith}
 use Rattle.std.proofs.lemmas.List.{length-map}
 use Rattle.derive_sources.specs.Entries.{plain}
 use Rattle.derive_sources.specs.Numbers.{path_at, first_owned}

@@ -1,10 +1,9 @@
-use Rattle.std.specs.Prelude.{IfSome}
-use Rattle.std.proofs.Common.{◌≡◌, ◌<◌, ◌∙◌, ◌∷◌, map, cond, length, Option, None, Some, option_map, option_and_then, sym, ap, subst, arith}
+use Rattle.std.proofs.Common.{◌<◌, ◌∙◌, map, length, option_map, sym, ap, subst, arith}
 use Rattle.std.proofs.lemmas.List.{length-map}
 use Rattle.derive_sources.specs.Entries.{plain, kind_of}
-use Rattle.derive_sources.specs.Numbers.{Item, path_at, item_at, is_of_kind}
+use Rattle.derive_sources.specs.Numbers.{Item, path_at}
 use Rattle.derive_sources.proofs.Seats.{around, IsInside, depth, ancestors_found, nearer, inside_more, less_deep}
-use Rattle.derived_rows.specs.Sources.{ancestors, reached}
+use Rattle.derived_rows.specs.Sources.{reached}
 use Rattle.svd_model.specs.Properties.{nearest}
 use Rattle.derive_sources.proofs.source.nearest.Goals as goal
 

@@ -1,6 +1,6 @@
 -- What is reached from the elements that are left is what is reached from all.
-use Rattle.std.proofs.Common.{◌≡◌, ◌<◌, ◌+◌, ℕ, Option, None, Some, map, length}
-use Rattle.derive_sources.specs.Entries.{plain, kind_of}
+use Rattle.std.proofs.Common.{◌≡◌, map, length}
+use Rattle.derive_sources.specs.Entries.{kind_of}
 use Rattle.derive_sources.specs.Numbers.{path_at}
 use Rattle.derive_sources.proofs.Seats.{around, IsInside, depth}
 use Rattle.derived_rows.specs.Sources.{ancestors, reached}

@@ -1,5 +1,5 @@
 use Rattle.std.specs.Prelude.{IfSome}
-use Rattle.std.proofs.Common.{subst, ◌<◌, ◌≡◌, ◌∙◌, map, cond, length, Option, None, Some, option_map, option_and_then, sym, ap, arith}
+use Rattle.std.proofs.Common.{subst, ◌<◌, ◌∙◌, map, cond, length, None, Some, option_map, option_and_then, sym, ap, arith}
 use Rattle.std.proofs.lemmas.List.{length-map}
 use Rattle.derive_sources.specs.Entries.{plain, kind_of}
 use Rattle.derive_sources.specs.Numbers.{Item, path_at, is_of_kind}

@@ -1,8 +1,6 @@
-use Rattle.std.specs.Prelude.{IfSome}
-use Rattle.std.proofs.Common.{◌≡◌, ◌<◌, ◌∙◌, ◌∷◌, map, cond, length, Option, None, Some, option_map, option_and_then, sym, ap, subst, arith}
-use Rattle.std.proofs.lemmas.List.{length-map}
+use Rattle.std.proofs.Common.{◌∙◌, map, sym, arith}
 use Rattle.derive_sources.specs.Entries.{plain, kind_of}
-use Rattle.derive_sources.specs.Numbers.{Item, path_at, item_at, is_of_kind}
+use Rattle.derive_sources.specs.Numbers.{path_at}
 use Rattle.derive_sources.proofs.Seats.{no_set, not_one}
 use Rattle.derived_rows.specs.Sources.{ancestors}
 use Rattle.derive_sources.proofs.source.second.Goals as goal

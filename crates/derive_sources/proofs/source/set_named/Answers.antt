@@ -1,7 +1,7 @@
-use Rattle.std.proofs.Common.{◌≡◌, ◌∙◌, map, length, Option, None, Some, option_map, option_and_then, true, sym, ap, arith}
+use Rattle.std.proofs.Common.{◌∙◌, map, option_map, option_and_then, true, sym, ap, arith}
 use Rattle.std.proofs.lemmas.List.{length-map}
 use Rattle.derive_sources.specs.Entries.{plain}
-use Rattle.derive_sources.specs.Numbers.{Item, path_at, first_owned, outer_of, item_at}
+use Rattle.derive_sources.specs.Numbers.{path_at, first_owned, outer_of}
 use Rattle.derive_sources.proofs.Seats.{set_tried}
 use Rattle.derive_sources.proofs.source.set_named.Goals as goal
 

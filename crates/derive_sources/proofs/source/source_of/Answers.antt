@@ -1,8 +1,7 @@
-use Rattle.std.specs.Prelude.{IfSome}
-use Rattle.std.proofs.Common.{◌≡◌, ◌<◌, ◌∙◌, ◌∷◌, map, cond, length, Option, None, Some, option_map, option_and_then, sym, ap, subst, arith}
+use Rattle.std.proofs.Common.{◌∙◌, map, option_map, sym, ap, arith}
 use Rattle.std.proofs.lemmas.List.{length-map}
 use Rattle.derive_sources.specs.Entries.{plain, kind_of}
-use Rattle.derive_sources.specs.Numbers.{Item, path_at, item_at, is_of_kind}
+use Rattle.derive_sources.specs.Numbers.{Item, path_at}
 use Rattle.derived_rows.specs.Sources.{ancestors, source_among}
 use Rattle.derive_sources.proofs.Seats.{source_kindless, source_nameless, source_sought}
 use Rattle.derive_sources.proofs.source.source_of.Goals as goal

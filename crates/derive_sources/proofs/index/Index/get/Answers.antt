@@ -1,4 +1,4 @@
-use Rattle.std.proofs.Common.{◌∙◌, refl, ap, sym}
+use Rattle.std.proofs.Common.{◌∙◌, refl, ap}
 use Rattle.std.specs.Map.{lookup}
 use Rattle.derive_sources.specs.Places.{is_place}
 use Rattle.derive_sources.proofs.Indexes.{found_entries}
