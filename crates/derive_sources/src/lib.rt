@@ -2,6 +2,7 @@
 // and not by going through siblings.
 #![tactic(auto)]
 
+mod device;
 mod entry;
 mod finding;
 mod index;
@@ -9,6 +10,7 @@ mod laws;
 mod listing;
 mod source;
 
+pub use device::{Sourced, sources_of};
 pub use entry::{Entry, Kind};
 pub use finding::{SourceFault, sources};
 pub use laws::numbers_law;
