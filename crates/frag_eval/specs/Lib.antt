@@ -4,3 +4,4 @@ pub mod Runs
 pub mod Courses
 pub mod Stages
 pub mod Answers
+pub mod Preparing

@@ -4,12 +4,14 @@
 
 mod course;
 mod deed;
+mod prepare;
 mod ready;
 mod role;
 mod running;
 mod stage;
 mod word;
 
+pub use prepare::prepare;
 pub use ready::Ready;
 pub use role::Role;
 pub use running::{begin, run, step};
