@@ -5,3 +5,7 @@ pub mod Courses
 pub mod Stages
 pub mod Answers
 pub mod Preparing
+pub mod Held
+pub mod Fields
+pub mod Lowering
+pub mod Lowered

@@ -2,16 +2,22 @@
 // then run step by step, one access of the bus a step, without memory.
 #![tactic(auto)]
 
+mod calls;
 mod course;
 mod deed;
-mod prepare;
+
+mod lower;
+mod names;
+
+mod put;
 mod ready;
 mod role;
 mod running;
 mod stage;
+mod term;
 mod word;
 
-pub use prepare::prepare;
+
 pub use ready::Ready;
 pub use role::Role;
 pub use running::{begin, run, step};

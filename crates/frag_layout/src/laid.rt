@@ -30,7 +30,7 @@ pub struct Laid {
 /// How the blocks of a crate are laid out: each before those inside it.
 #[derive(Drop)]
 pub struct Layouts {
-    pub(crate) blocks: Vec<Laid>,
+    pub blocks: Vec<Laid>,
 }
 
 /// Lays out each block of a crate, where none is larger than 2^64 bytes.
