@@ -8,3 +8,7 @@ mod Cutting
 mod OnTypes
 mod Doing
 mod Growing
+mod Scripts
+mod CalledPlaces
+mod Setting
+mod Planning

@@ -1,5 +1,5 @@
 -- The places that a script calls, and their presets, as they are gathered and made.
-use Rattle.std.specs.Prelude.{ℕ, ◌≡◌, ◌≤◌, ◌<◌, ◌+◌, ◌^◌, List, [], ◌∷◌, ◌++◌, map, filter_map, option_map, Result, Ok, Err, if◌then◌else◌}
+use Rattle.std.specs.Prelude.{ℕ, ◌≡◌, ◌≤◌, ◌<◌, ◌+◌, ◌^◌, List, [], ◌∷◌, ◌++◌, map, filter_map, Option, Some, None, option_map, Result, Ok, Err, if◌then◌else◌}
 use Rattle.std.specs.Borrow.{Bor}
 use Rattle.std.specs.List.{list_any}
 use Rattle.pac_base.specs.Widths.{bits_of}
@@ -10,8 +10,9 @@ use Rattle.pac_bus.specs.Widths.{bytes_of}
 use Rattle.pac_bus.specs.declared.access.Preset.{Preset as BusPreset}
 use Rattle.frag_tree.specs.declared.statement.Place.{Place}
 use Rattle.frag_tree.specs.Trees.{CrateTree}
+use Rattle.frag_sem.specs.CallPlaces.{RegisterAt}
 use Rattle.frag_sem.specs.Presets.{Preset, preset_of, same_place}
-use Rattle.frag_sem.specs.TextMeaning.{text_at}
+use Rattle.frag_sem.specs.TextMeaning.{acts_at, text_at}
 use Rattle.frag_eval.specs.declared.preset.Called.{Called}
 
 -- a preset of a bus, as scripts have it
@@ -25,6 +26,11 @@ places_seen called = map (λ place. place.now) called.seen.items
 -- the presets of the registers that stand at places
 abbrev pub presets_at : CrateTree → List Place → List Preset
 presets_at krate places = filter_map (λ place. option_map preset_of (text_at krate place)) places
+
+-- the preset of a register, if there is one
+abbrev pub preset_at : Option RegisterAt → List Preset
+preset_at None = []
+preset_at (Some found) = preset_of (acts_at found) ∷ []
 
 -- A place was taken in, unless it was called before; and so was its preset.
 pub record AddsPlace (krate : CrateTree) (place : Place) (old now : Called) : Type 0 where

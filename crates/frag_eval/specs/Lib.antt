@@ -9,3 +9,5 @@ pub mod Held
 pub mod Fields
 pub mod Lowering
 pub mod Lowered
+pub mod Called
+pub mod Plans

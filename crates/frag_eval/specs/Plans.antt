@@ -7,7 +7,7 @@ use Rattle.pac_bus.specs.Telling.{BusTold, Did}
 use Rattle.frag_tree.specs.declared.script.Script.{Script}
 use Rattle.frag_tree.specs.Trees.{CrateTree}
 use Rattle.frag_sem.specs.TextMeaning.{text_presets}
-use Rattle.frag_eval.specs.declared.prepare.Plan.{Plan}
+use Rattle.frag_eval.specs.declared.plan.Plan.{Plan}
 use Rattle.frag_eval.specs.Called.{SetSome, preset_seen}
 use Rattle.frag_eval.specs.Lowered.{AreAll}
 

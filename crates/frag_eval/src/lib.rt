@@ -9,15 +9,19 @@ mod deed;
 mod lower;
 mod names;
 
+mod plan;
+mod preset;
 mod put;
 mod ready;
 mod role;
 mod running;
+mod script;
 mod stage;
 mod term;
 mod word;
 
 
+pub use plan::prepare;
 pub use ready::Ready;
 pub use role::Role;
 pub use running::{begin, run, step};

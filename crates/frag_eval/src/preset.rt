@@ -1,17 +1,17 @@
-ghost use Rattle.std.specs.Prelude.{◌≡◌, IfOk, map, option_map};
+ghost use Rattle.std.specs.Prelude.{◌≡◌, ◌++◌, IfOk, map, option_map};
 ghost use Rattle.std.specs.Cmp.Lexicographic.{pointwise};
 ghost use Rattle.std.specs.List.{list_any, AllByRecursion};
 ghost use Rattle.frag_layout.specs.Layouts.{AreLaid};
-ghost use Rattle.frag_layout.specs.Walks.{StartsBelow};
+ghost use Rattle.frag_layout.specs.Walks.{StartsBelow, found_seen};
 ghost use Rattle.frag_sem.specs.CallPlaces.{register_at};
 ghost use Rattle.frag_sem.specs.Presets.{same_index, same_place, same_step};
 ghost use Rattle.frag_sem.specs.TextMeaning.{text_presets};
 ghost use Rattle.frag_tree.specs.Trees.{crate_tree};
 ghost use Rattle.frag_tree.specs.declared.statement.Place.{Place as PlaceRow};
-ghost use Rattle.frag_eval.specs.Called.{AddsPlace, IsHeld, SetsAll, preset_seen};
+ghost use Rattle.frag_eval.specs.Called.{AddsPlace, IsHeld, SetsAll, preset_at, preset_seen};
 
 use crate::script::called;
-use frag_layout::{Layouts, register_at};
+use frag_layout::{Found, Layouts, register_at};
 use frag_tree::{Call, Crate, Place, Script};
 use pac_base::NoMemory;
 use pac_bus::{Bus, Preset};
@@ -76,6 +76,23 @@ fn is_among(place: &Place, seen: &[&Place]) -> bool
     seen.iter().any(|other| same_place(other, place))
 }
 
+/// Puts the preset of a register behind others, where there is a register.
+fn add_preset(found: Option<Found<'_>>, presets: &mut Vec<Preset>) -> Result<(), NoMemory>
+    ensures { IfOk result (λ _. map preset_seen presets.new.items ≡ map preset_seen presets.old.items ++ preset_at (option_map found_seen found.entry)) }
+{
+    match found {
+        Some(found) => {
+            presets.push(Preset {
+                address: found.address,
+                width: found.register.word,
+                value: found.register.reset.value,
+            })?;
+            Ok(())
+        }
+        None => Ok(()),
+    }
+}
+
 /// Takes a place in that is called, unless it was called before.
 fn add_place<'a>(
     krate: &Crate,
@@ -90,13 +107,7 @@ fn add_place<'a>(
     if is_among(place, called.seen.as_slice()) {
         return Ok(());
     }
-    if let Some(found) = register_at(krate, layouts, place) {
-        called.presets.push(Preset {
-            address: found.address,
-            width: found.register.word,
-            value: found.register.reset.value,
-        })?;
-    }
+    add_preset(register_at(krate, layouts, place), &mut called.presets)?;
     called.seen.push(place)?;
     Ok(())
 }
