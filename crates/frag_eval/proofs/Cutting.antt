@@ -58,6 +58,6 @@ bits_cut width word offset bits value = by (cases_lt 64 bits)
         let few : N ≤ 64 = bits_few width in
         let same : ones (min bits 64) % 2 ^ N ≡ ones bits % 2 ^ N = ones_cut N (min bits 64) (omega arith) ∙ sym (ones_cut N bits (omega arith)) in
         let both : bit_and value (ones (min bits 64)) % 2 ^ N ≡ bit_and value (ones bits) % 2 ^ N =
-            and_mod value (ones (min bits 64)) N ∙ (ap (λ (k : ℕ). bit_and (value % 2 ^ N) k) same ∙ sym (and_mod value (ones bits) N)) in
+        and_mod value (ones (min bits 64)) N ∙ (ap (λ (k : ℕ). bit_and (value % 2 ^ N) k) same ∙ sym (and_mod value (ones bits) N)) in
         ap₂ (λ (m v : ℕ). bit_or (bit_and word (complement N m)) v) (up_same N (ones (min bits 64)) (ones bits) offset same) (up_same N (bit_and value (ones (min bits 64))) (bit_and value (ones bits)) offset both)
     by (inr near) = let same : min bits 64 ≡ bits = omega arith in ap (λ (n : ℕ). bit_or (bit_and word (complement N (shifted_up N (ones n) offset))) (shifted_up N (bit_and value (ones n)) offset)) same

@@ -167,7 +167,7 @@ modify_does found line one other words answers names old within names_reader cha
     let small : a < 2 ^ 64 = answer_64 found.register.word answers in
     let last : word_at words' reading.read ≡ a = ap (word_at words') (read ∙ sym count) ∙ word_last words a in
     let from : start_word N (word_at words' reading.read) a_one raised ≡ started found.register a =
-        ap (λ (w : ℕ). start_word N w a_one raised) last ∙ (ap (λ (m : ℕ). start_word N a m raised) one-is ∙ ap (start_word N a (one_to_modify found.register)) raised-is) in
+    ap (λ (w : ℕ). start_word N w a_one raised) last ∙ (ap (λ (m : ℕ). start_word N a m raised) one-is ∙ ap (start_word N a (one_to_modify found.register)) raised-is) in
     let known = knows_within names_reader found words a old within names reading small knows unit (read ∙ sym count) is in
     record {
       meant = λ others.

@@ -118,8 +118,8 @@ modify_grows old mid deeds found names_reader chain line reading reader puts tar
     let first : Deed = deed.Read (target_of (found_seen found) role.ModifyRead line) in
     let second : Deed = deed.Write (target_of (found_seen found) role.ModifyWrite line) (start.Based reading.read one raised) puts in
     let items : deeds.items ≡ old.deeds.items ++ first ∷ second ∷ [] =
-        is ∙ (ap (λ (t : Target). mid.deeds.items ++ deed.Write t (start.Based reading.read one raised) puts ∷ []) at
-        ∙ (ap (λ (l : List Deed). l ++ second ∷ []) read.deeds ∙ append_assoc old.deeds.items (first ∷ []) (second ∷ []))) in
+    is ∙ (ap (λ (t : Target). mid.deeds.items ++ deed.Write t (start.Based reading.read one raised) puts ∷ []) at
+    ∙ (ap (λ (l : List Deed). l ++ second ∷ []) read.deeds ∙ append_assoc old.deeds.items (first ∷ []) (second ∷ []))) in
     record {
       more = first ∷ second ∷ [];
       deeds = items;

@@ -124,9 +124,9 @@ prepared old now krate script plan ready is made of_crate of_script = record {
   room = λ answers.
       let few : length (accesses_in (deeds_mean plan.deeds.items [] answers)) ≤ length plan.deeds.items = accesses_few plan.deeds.items [] answers in
       let same : length (accesses_in (text_meaning (crate_tree ready.krate) ready.script answers)) ≡ length (accesses_in (deeds_mean plan.deeds.items [] answers)) =
-          ap (λ krate. length (accesses_in (text_meaning (crate_tree krate) ready.script answers))) of_crate
-          ∙ (ap (λ script. length (accesses_in (text_meaning (crate_tree krate) script answers))) of_script
-          ∙ ap (λ events. length (accesses_in events)) (is.deeds.meant answers)) in
+      ap (λ krate. length (accesses_in (text_meaning (crate_tree krate) ready.script answers))) of_crate
+      ∙ (ap (λ script. length (accesses_in (text_meaning (crate_tree krate) script answers))) of_script
+      ∙ ap (λ events. length (accesses_in events)) (is.deeds.meant answers)) in
       omega (arith, few, same, made.room);
 }
 

@@ -238,7 +238,11 @@ fn prelude_write(kind: BitKind, name: &[u8]) -> Option<bool>
 fn one_write(name: &[u8], text: &[u8], value: bool) -> Option<bool>
     ensures { result ≡ (if bytes_eq name.now text.now then Some value else None) }
 {
-    if is_text(name, text) { Some(value) } else { None }
+    if is_text(name, text) {
+        Some(value)
+    } else {
+        None
+    }
 }
 
 /// What the call of a name of a bit's writer writes.

@@ -5,10 +5,8 @@
 mod calls;
 mod course;
 mod deed;
-
 mod lower;
 mod names;
-
 mod plan;
 mod preset;
 mod put;
@@ -19,7 +17,6 @@ mod script;
 mod stage;
 mod term;
 mod word;
-
 
 pub use plan::prepare;
 pub use ready::Ready;

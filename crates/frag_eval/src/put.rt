@@ -93,13 +93,7 @@ fn field_put(
     ensures { (words : List ℕ) (bindings : List Binding) (word : ℕ) → Knows words (finds names.now) bindings → maybe_put (bits_of unit.now.word) words word result ≡ field_written unit.now field.now.name field.now.index method.now (argument bindings value.now) word }
 {
     match writer_named(unit, field.name.bytes()) {
-        Some(writer) => Some(form_put(
-            unit,
-            writer,
-            field.index,
-            method,
-            argument(names, value),
-        )),
+        Some(writer) => Some(form_put(unit, writer, field.index, method, argument(names, value))),
         None => None,
     }
 }

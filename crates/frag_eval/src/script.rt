@@ -30,11 +30,7 @@ pub(crate) fn called(statement: &Statement) -> Option<&Place>
 }
 
 /// The register that a statement calls.
-fn called_at<'a>(
-    krate: &'a Crate,
-    layouts: &'a Layouts,
-    statement: &Statement,
-) -> Option<Found<'a>>
+fn called_at<'a>(krate: &'a Crate, layouts: &'a Layouts, statement: &Statement) -> Option<Found<'a>>
     requires laid { AreLaid (crate_tree krate.now) layouts.now.blocks.items }
     requires range { (place : PlaceRow) → StartsBelow (register_at (crate_tree krate.now) place) }
     ensures { IsCalled (crate_tree krate.now) statement.now (option_map found_seen result) }

@@ -1,5 +1,4 @@
 ghost use Rattle.std.specs.Prelude.{◌≡◌, ◌<◌, ◌^◌, ℕ, List, min};
-
 ghost use Rattle.frag_sem.specs.Meaning.{Bound as Binding, argument, atom_value, source_value, value_of};
 ghost use Rattle.frag_sem.specs.Spots.{spot_at};
 ghost use Rattle.frag_sem.specs.TextMeaning.{bit_given, bits_given, field_given, form_given};

@@ -64,9 +64,10 @@ parts_begin xs ys layouts others is = is ∙ (ap (λ l. l ++ others) (map-append
 
 pub begin_block : (layouts : List Laid) (first : ModuleTree) (unit : BlockTree) (others : List ModuleTree) → first ≡ one_block unit → Begin layouts (blocks_in (in_line (first ∷ others))) → Begin layouts (with_inside unit)
 begin_block layouts first unit others is begins =
-    let same : blocks_in (in_line (first ∷ others)) ≡ with_inside unit ++ blocks_in (in_line others) = ap (λ tree. blocks_in (in_line (tree ∷ others))) is ∙ blocks_before (one_block unit) others in
-    (map laid_of (blocks_in (in_line others)) ++ begins.0,
-    parts_begin (with_inside unit) (blocks_in (in_line others)) layouts begins.0 (begins.1 ∙ ap (λ units. map laid_of units ++ begins.0) same))
+    let same : blocks_in (in_line (first ∷ others)) ≡ with_inside unit ++ blocks_in (in_line others) = ap (λ tree. blocks_in (in_line (tree ∷ others))) is ∙ blocks_before (one_block unit) others in (
+      map laid_of (blocks_in (in_line others)) ++ begins.0,
+      parts_begin (with_inside unit) (blocks_in (in_line others)) layouts begins.0 (begins.1 ∙ ap (λ units. map laid_of units ++ begins.0) same),
+    )
 
 drop_front : {A : Type 0} (xs ys : List A) → drop (length xs) (xs ++ ys) ≡ ys
 drop_front [] ys = refl
@@ -138,7 +139,6 @@ own_and_inside unit own inside made is inner outer small =
 
 pub no_first : (layouts : List Laid) (unit : BlockTree) → None ≡ slice_get layouts 0 → Begin layouts (with_inside unit) → ⊥
 no_first layouts unit none begins = let e : None ≡ Some (laid_of unit) = none ∙ ap (λ (l : List Laid). slice_get l 0) begins.1 in cc
-
 
 pub begin_all : (layouts : List Laid) (units : List BlockTree) → layouts ≡ map laid_of units → Begin layouts units
 begin_all layouts units is = ([], is ∙ sym (append-nil (map laid_of units)))

@@ -102,8 +102,9 @@ pub(crate) fn offset_of(
     let index = index.unwrap_or(0) as u128;
     match &access.body {
         Body::Field { field } => place_of(field.bytes(), block, layouts),
-        Body::Member { field } => place_of(field.bytes(), block, layouts)
-            .saturating_add(index.saturating_mul(element_size(access, block, layouts))),
+        Body::Member { field } => place_of(field.bytes(), block, layouts).saturating_add(
+            index.saturating_mul(element_size(access, block, layouts)),
+        ),
         Body::At { offset } => *offset as u128,
         Body::AtIndex { offset, stride, .. } => {
             (*offset as u128).saturating_add(index.saturating_mul(*stride as u128))

@@ -112,7 +112,11 @@ pub fn register_at<'a>(krate: &'a Crate, layouts: &'a Layouts, place: &Place) ->
     ensures { AreLaid (crate_tree krate.now) layouts.now.blocks.items → StartsBelow (register_at (crate_tree krate.now) place.now) → option_map found_seen result ≡ register_at (crate_tree krate.now) place.now }
 {
     let slot = slot_named(place.slot.bytes(), krate.slots.as_slice())?;
-    let unit = top_block(slot.block.bytes(), krate.blocks.as_slice(), layouts.blocks.as_slice())?;
+    let unit = top_block(
+        slot.block.bytes(),
+        krate.blocks.as_slice(),
+        layouts.blocks.as_slice(),
+    )?;
     leads(
         Site {
             start: slot.address,

@@ -6,4 +6,3 @@ use Rattle.frag_layout.proofs.build.+layouts.Given as goal
 
 abbrev pub invariant-inner_layouts-loop-part : goal.invariant-inner_layouts-loop-part
 invariant-inner_layouts-loop-part l = LaidUpTo (blocks_in (in_line (map module_tree l.fn.modules))) (blocks_in (in_line (map module_tree (drop l.part-index l.modules)))) l.made.items
-

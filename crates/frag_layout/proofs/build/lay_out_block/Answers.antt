@@ -24,7 +24,7 @@ loop-field-preserved c =
     let unit = block_tree c.args.block.now in
     let begins : Begin c.args.inside.now (blocks_in unit.inside) = begin_all c.args.inside.now (blocks_in unit.inside) inside in
     let extent_is = subst (λ modules. IsExtent c.type_extent.result (type_extent (extents modules) c.in-Some.field.now.holds)) c.modules_of-modules.ensures
-        (c.type_extent.ensures (subst (λ modules. Begin c.args.inside.now (blocks_in modules)) (sym c.modules_of-modules.ensures) begins)) in
+    (c.type_extent.ensures (subst (λ modules. Begin c.args.inside.now (blocks_in modules)) (sym c.modules_of-modules.ensures) begins)) in
     placed_more (extents unit.inside) unit.head.fields c.loop-field.rest.now c.in-Some.others.now c.in-Some.field.now c.loop-field.placing c.place.new.self c.type_extent.result
     c.in-Some.ensures.cases.0 (ends_fit unit small).0 extent_is c.in_ok-place.ensures (c.loop-field.invariant inside small)
 

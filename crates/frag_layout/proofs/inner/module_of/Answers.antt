@@ -6,9 +6,10 @@ use Rattle.frag_layout.proofs.Seeking.{module-found, module-missing, module-pass
 use Rattle.frag_layout.proofs.inner.module_of.Goals as goal
 
 pub loop-part-preserved : goal.loop-part-preserved
-loop-part-preserved c =
-    (module-passed c.args.element.now c.loop-part.rest.now c.in-Some.others.now c.in-Some.part.now c.in-Some.ensures.cases.0 (sym c.is_of.ensures ∙ c.if-is_of.false) ∙ c.loop-part.invariant.0,
-    λ begins. c.behind-left.ensures (map module_tree c.in-Some.others.now) (subst (λ parts. Begin c.loop-part.left.now (blocks_in (in_line (map module_tree parts)))) c.in-Some.ensures.cases.0 (c.loop-part.invariant.1 begins)))
+loop-part-preserved c = (
+  module-passed c.args.element.now c.loop-part.rest.now c.in-Some.others.now c.in-Some.part.now c.in-Some.ensures.cases.0 (sym c.is_of.ensures ∙ c.if-is_of.false) ∙ c.loop-part.invariant.0,
+  λ begins. c.behind-left.ensures (map module_tree c.in-Some.others.now) (subst (λ parts. Begin c.loop-part.left.now (blocks_in (in_line (map module_tree parts)))) c.in-Some.ensures.cases.0 (c.loop-part.invariant.1 begins)),
+)
 
 pub returns-then-is_of-clause-tree : goal.returns-then-is_of-clause-tree
 returns-then-is_of-clause-tree c =

@@ -10,8 +10,8 @@ loop-laid-init c = (ap (λ items. c.args.made.now.items ++ items) c.into_iter-la
 pub loop-laid-preserved : goal.loop-laid-preserved
 loop-laid-preserved c = (
   ap (λ made. made ++ into_iter_items c.next.new.self) c.in_ok-push.ensures.items
-  ∙ (append_assoc c.loop-laid.made.items (c.in-Some.laid ∷ []) (into_iter_items c.next.new.self)
-  ∙ (ap (λ items. c.loop-laid.made.items ++ items) (sym c.in-Some.ensures.steps.0) ∙ c.loop-laid.invariant.0)),
+      ∙ (append_assoc c.loop-laid.made.items (c.in-Some.laid ∷ []) (into_iter_items c.next.new.self)
+      ∙ (ap (λ items. c.loop-laid.made.items ++ items) (sym c.in-Some.ensures.steps.0) ∙ c.loop-laid.invariant.0)),
   search rules,
 )
 

@@ -17,8 +17,8 @@ returns-in-Some c =
     λ has.
     let block = c.in-Block.block in
     let named : access_named c.args.step.now.name (block_tree block.now).head.accessors ≡ Some c.in-Some.access.now =
-        ap (λ accessors. access_named c.args.step.now.name accessors) (sym c.accessors_of.ensures) ∙ (ap (λ name. access_named name c.accessors_of.result.now) (sym c.bytes.ensures.same)
-        ∙ sym (sym (ap (option_map (λ (access : Bor Access). access.now)) c.in-Some.is) ∙ c.access_named.ensures)) in
+    ap (λ accessors. access_named c.args.step.now.name accessors) (sym c.accessors_of.ensures) ∙ (ap (λ name. access_named name c.accessors_of.result.now) (sym c.bytes.ensures.same)
+    ∙ sym (sym (ap (option_map (λ (access : Bor Access). access.now)) c.in-Some.is) ∙ c.access_named.ensures)) in
     subst (λ (tree : ModuleTree). Goes c.through.result tree c.args.site.start c.args.step.now) (sym (ap inner_tree c.in-Block.is))
     (goes_through c.through.result (block_tree block.now) c.args.site.start c.args.step.now c.in-Some.access.now named (c.through.ensures (subst (λ (inner : Inner). HasLayouts inner) c.in-Block.is has)))
 
@@ -27,7 +27,7 @@ returns-in-None c =
     λ has.
     let block = c.in-Block.block in
     let none : access_named c.args.step.now.name (block_tree block.now).head.accessors ≡ None =
-        ap (λ accessors. access_named c.args.step.now.name accessors) (sym c.accessors_of.ensures) ∙ (ap (λ name. access_named name c.accessors_of.result.now) (sym c.bytes.ensures.same)
-        ∙ sym (sym (ap (option_map (λ (access : Bor Access). access.now)) c.in-None.is) ∙ c.access_named.ensures)) in
+    ap (λ accessors. access_named c.args.step.now.name accessors) (sym c.accessors_of.ensures) ∙ (ap (λ name. access_named name c.accessors_of.result.now) (sym c.bytes.ensures.same)
+    ∙ sym (sym (ap (option_map (λ (access : Bor Access). access.now)) c.in-None.is) ∙ c.access_named.ensures)) in
     subst (λ (tree : ModuleTree). Goes None tree c.args.site.start c.args.step.now) (sym (ap inner_tree c.in-Block.is))
     (goes_nowhere (block_tree block.now) c.args.site.start c.args.step.now none)

@@ -28,10 +28,10 @@ pub returns : goal.returns
 returns c =
     λ laid below.
     let found = led c.args.krate.now c.args.place.now c.in_ok-slot.slot.now (inner_tree c.in_ok-unit.unit)
-        (ap (λ name. slot_named name c.args.krate.now.slots) (sym c.bytes.ensures.same) ∙ (ap (slot_named c.bytes.result.now) (sym c.as_slice.ensures) ∙ sym c.in_ok-slot.ensures))
-        (c.in_ok-unit.ensures.tree ∙ (ap (λ name. option_map one_block (top_block name (map block_tree c.as_slice-2.result.now))) c.bytes-2.ensures.same
-        ∙ ap (λ blocks. option_map one_block (top_block c.in_ok-slot.slot.now.block (map block_tree blocks))) c.as_slice-2.ensures.value)) in
+    (ap (λ name. slot_named name c.args.krate.now.slots) (sym c.bytes.ensures.same) ∙ (ap (slot_named c.bytes.result.now) (sym c.as_slice.ensures) ∙ sym c.in_ok-slot.ensures))
+    (c.in_ok-unit.ensures.tree ∙ (ap (λ name. option_map one_block (top_block name (map block_tree c.as_slice-2.result.now))) c.bytes-2.ensures.same
+    ∙ ap (λ blocks. option_map one_block (top_block c.in_ok-slot.slot.now.block (map block_tree blocks))) c.as_slice-2.ensures.value)) in
     let steps : leads c.as_slice-4.result.now (inner_tree c.in_ok-unit.unit) c.in_ok-slot.slot.now.address ≡ register_at (crate_tree c.args.krate.now) c.args.place.now =
-        ap (λ (steps : List Call). leads steps (inner_tree c.in_ok-unit.unit) c.in_ok-slot.slot.now.address) c.as_slice-4.ensures ∙ found in
+    ap (λ (steps : List Call). leads steps (inner_tree c.in_ok-unit.unit) c.in_ok-slot.slot.now.address) c.as_slice-4.ensures ∙ found in
     let has = c.in_ok-unit.ensures.layouts (c.as_slice-3.ensures.value ∙ (laid_below c.args.krate.now c.args.layouts.now.blocks.items laid ∙ ap (λ blocks. map laid_of (flat_map with_inside (map block_tree blocks))) (sym c.as_slice-2.ensures.value))) in
     c.leads.ensures has (subst (λ (o : Option RegisterAt). StartsBelow o) (sym steps) below) ∙ steps

@@ -13,6 +13,7 @@ returns-then-eq-clause-layouts c =
     λ are. (map laid_of (flat_map with_inside (map block_tree c.in-Some.others.now)), top-begins c.loop-block.rest.now c.in-Some.others.now c.in-Some.block.now c.loop-block.left.now c.in-Some.ensures.cases.0 (c.loop-block.invariant.1 are))
 
 pub loop-block-preserved : goal.loop-block-preserved
-loop-block-preserved c =
-    (top-passed c.args.name.now c.loop-block.rest.now c.in-Some.others.now c.in-Some.block.now c.in-Some.ensures.cases.0 (ap (bytes_eq c.args.name.now) (sym c.bytes.ensures.same) ∙ (sym c.eq.ensures ∙ c.if-eq.false)) ∙ c.loop-block.invariant.0,
-    λ are. c.behind_block-left.ensures (block_tree c.in-Some.block.now) (map laid_of (flat_map with_inside (map block_tree c.in-Some.others.now))) (top-begins c.loop-block.rest.now c.in-Some.others.now c.in-Some.block.now c.loop-block.left.now c.in-Some.ensures.cases.0 (c.loop-block.invariant.1 are)))
+loop-block-preserved c = (
+  top-passed c.args.name.now c.loop-block.rest.now c.in-Some.others.now c.in-Some.block.now c.in-Some.ensures.cases.0 (ap (bytes_eq c.args.name.now) (sym c.bytes.ensures.same) ∙ (sym c.eq.ensures ∙ c.if-eq.false)) ∙ c.loop-block.invariant.0,
+  λ are. c.behind_block-left.ensures (block_tree c.in-Some.block.now) (map laid_of (flat_map with_inside (map block_tree c.in-Some.others.now))) (top-begins c.loop-block.rest.now c.in-Some.others.now c.in-Some.block.now c.loop-block.left.now c.in-Some.ensures.cases.0 (c.loop-block.invariant.1 are)),
+)
