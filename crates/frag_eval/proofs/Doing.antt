@@ -1,28 +1,24 @@
 -- What the deeds of one statement do.
-use Rattle.std.proofs.Common.{ℕ, ◌≡◌, ◌+◌, ◌%◌, ◌^◌, ◌<◌, ◌≤◌, zero, suc, Bool, true, false, cond, List, [], ◌∷◌, ◌++◌, drop, find, length, map, Option, Some, None, Ok, Err, Result, IfSome, IfOk, option_map, option_and_then, bytes_eq, refl, sym, ap, ap₂, subst, ◌∙◌, arith, append_assoc, length-append, Vec, Global}
-use Rattle.std.specs.Prelude.{if◌then◌else◌, slice_get, unwrap_or}
+use Rattle.std.proofs.Common.{ℕ, ◌≡◌, ◌+◌, ◌^◌, ◌<◌, ◌≤◌, zero, suc, Bool, true, false, cond, List, [], ◌∷◌, ◌++◌, drop, length, Option, Some, None, IfSome, bytes_eq, refl, sym, ap, ap₂, subst, ◌∙◌, arith, length-append, Vec, Global}
+use Rattle.std.specs.Prelude.{if◌then◌else◌}
 use Rattle.std.proofs.Math.Nat.{pow-le-pow_right}
 use Rattle.std.proofs.lemmas.List.{append-nil}
 use Rattle.pac_base.specs.declared.width.Width.{Width}
 use Rattle.pac_base.specs.Widths.{bits_of}
-use Rattle.frag_tree.specs.declared.event.Event.{Event}
 use Rattle.frag_tree.specs.declared.event.Event.TheVariants as event
-use Rattle.frag_tree.specs.declared.script.ScriptLine.{ScriptLine}
 use Rattle.frag_tree.specs.declared.statement.Link.{Link}
 use Rattle.frag_tree.specs.declared.statement.Value.{Value}
 use Rattle.frag_sem.specs.CallPlaces.{RegisterAt}
-use Rattle.frag_sem.specs.Meaning.{Acts, ActsAt, Bound, Outcome, Standing, bound_as, chain_written, let_outcome, modify_outcome, names_within, next_answer, say_outcome, value_of, write_event}
+use Rattle.frag_sem.specs.Meaning.{Acts, Bound, bound_as, chain_written, let_outcome, modify_outcome, names_within, next_answer, say_outcome, value_of, write_event}
 use Rattle.frag_sem.specs.PreludeWords.{start_word}
 use Rattle.frag_sem.specs.ScriptTyping.{reader_name}
 use Rattle.frag_sem.specs.TextMeaning.{acts_at, one_to_modify, started, text_acts, zero_to_modify}
 use Rattle.frag_sem.proofs.Words.{answer_small}
-use Rattle.frag_eval.specs.declared.deed.Deed.{Deed}
 use Rattle.frag_eval.specs.declared.deed.Deed.TheVariants as deed
 use Rattle.frag_eval.specs.declared.deed.Operand.{Operand}
 use Rattle.frag_eval.specs.declared.deed.Put.{Put}
 use Rattle.frag_eval.specs.declared.deed.Start.{Start}
 use Rattle.frag_eval.specs.declared.deed.Start.TheVariants as start
-use Rattle.frag_eval.specs.declared.deed.Target.{Target}
 use Rattle.frag_eval.specs.declared.names.Reading.{Reading}
 use Rattle.frag_eval.specs.declared.role.Role.{Role}
 use Rattle.frag_eval.specs.Deeds.{all_put, deeds_mean, operand_said, start_of, word_at}

@@ -1,5 +1,5 @@
 -- How a script in plain numbers grows by the deeds of a line.
-use Rattle.std.proofs.Common.{ℕ, ◌≡◌, ◌+◌, ◌≤◌, Bool, List, [], ◌∷◌, ◌++◌, length, map, Option, Some, None, Ok, Err, Result, IfOk, option_map, option_and_then, bytes_eq, refl, sym, ap, subst, ◌∙◌, arith, length-append, append_assoc, true, false, Vec, Global}
+use Rattle.std.proofs.Common.{ℕ, ◌≡◌, Bool, List, [], ◌∷◌, ◌++◌, length, map, Option, Some, None, Ok, Err, Result, IfOk, option_map, option_and_then, bytes_eq, refl, sym, ap, subst, ◌∙◌, arith, length-append, append_assoc, true, false, Vec, Global}
 use Rattle.std.specs.Prelude.{if◌then◌else◌}
 use Rattle.std.specs.Map.{lookup}
 use Rattle.std.proofs.lemmas.List.{append-nil}
@@ -22,17 +22,15 @@ use Rattle.frag_eval.specs.declared.deed.Deed.{Deed}
 use Rattle.frag_eval.specs.declared.deed.Deed.TheVariants as deed
 use Rattle.frag_eval.specs.declared.deed.Operand.{Operand}
 use Rattle.frag_eval.specs.declared.deed.Put.{Put}
-use Rattle.frag_eval.specs.declared.deed.Start.{Start}
 use Rattle.frag_eval.specs.declared.deed.Start.TheVariants as start
 use Rattle.frag_eval.specs.declared.deed.Target.{Target}
 use Rattle.frag_eval.specs.declared.lower.Lowering.{Lowering}
 use Rattle.frag_eval.specs.declared.names.Reading.{Reading}
-use Rattle.frag_eval.specs.declared.role.Role.{Role}
 use Rattle.frag_eval.specs.declared.role.Role.TheVariants as role
 use Rattle.frag_eval.specs.Courses.{deeds_dues}
-use Rattle.frag_eval.specs.Deeds.{all_put, operand_said, start_of}
+use Rattle.frag_eval.specs.Deeds.{all_put, operand_said}
 use Rattle.frag_eval.specs.Lowered.{Grows, IsCalled, IsFew, IsRead, a_due, acts_found, standing_of, target_of}
-use Rattle.frag_eval.specs.Lowering.{Does, Finding, Knows, finds_bound, finds_with, outcome_at}
+use Rattle.frag_eval.specs.Lowering.{Does, Knows, finds_bound, finds_with, outcome_at}
 use Rattle.frag_eval.specs.Prefixes.{Due, dues_at, dues_of, line_dues, roles_of}
 use Rattle.frag_eval.proofs.Doing.{let_does, modify_does, nothing_does, say_does, write_does}
 

@@ -1,6 +1,5 @@
 -- Calls of values that stand on a type, and what readers and writers make of words.
 use Rattle.std.proofs.Common.{ℕ, ◌≡◌, ◌^◌, ◌<◌, ◌++◌, ◌∷◌, [], min, Bool, true, false, cond, List, find, Option, Some, None, bytes_eq, refl, sym, ap, ◌∙◌, arith}
-use Rattle.std.specs.Prelude.{if◌then◌else◌}
 use Rattle.pac_base.specs.declared.width.Width.{Width}
 use Rattle.pac_base.specs.Widths.{bits_of}
 use Rattle.frag_tree.specs.declared.register.BitKind.{BitKind}

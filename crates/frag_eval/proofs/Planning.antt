@@ -1,5 +1,5 @@
 -- From a plan to what is ready.
-use Rattle.std.proofs.Common.{ℕ, ◌≡◌, ◌+◌, ◌/◌, ◌^◌, ◌<◌, ◌≤◌, List, [], ◌∷◌, ◌++◌, drop, length, map, Option, Some, None, Ok, Err, Result, IfSome, refl, sym, ap, subst, ◌∙◌, arith}
+use Rattle.std.proofs.Common.{ℕ, ◌≡◌, ◌/◌, ◌≤◌, List, [], ◌∷◌, ◌++◌, drop, length, map, Option, Some, None, Ok, Err, Result, IfSome, refl, sym, ap, subst, ◌∙◌, arith}
 use Rattle.std.specs.List.{AllByRecursion}
 use Rattle.std.specs.Vec.{vec_capacity}
 use Rattle.std.proofs.lemmas.List.{append-nil, map-append}
@@ -28,14 +28,14 @@ use Rattle.frag_eval.specs.declared.deed.Deed.{Deed}
 use Rattle.frag_eval.specs.declared.deed.Deed.TheVariants as deed
 use Rattle.frag_eval.specs.declared.plan.Plan.{Plan}
 use Rattle.frag_eval.specs.Called.{IsHeld, SetSome, preset_seen}
-use Rattle.frag_eval.specs.Courses.{AreLeft, IsCourse, IsReady, ready_of}
-use Rattle.frag_eval.specs.Deeds.{deeds_mean, operand_said}
+use Rattle.frag_eval.specs.Courses.{AreLeft, IsReady}
+use Rattle.frag_eval.specs.Deeds.{deeds_mean}
 use Rattle.frag_eval.specs.Lowered.{AreAll}
 use Rattle.frag_sem.specs.Meaning.{next_answer}
 use Rattle.frag_eval.specs.Plans.{IsMadeReady, IsPlan, MakesReady}
 use Rattle.frag_eval.specs.Prefixes.{accesses_in, reads_in}
-use Rattle.frag_eval.specs.Preparing.{Prepared, Refused, set_by, set_by_all}
-use Rattle.frag_eval.specs.Runs.{HasSpare, Readied}
+use Rattle.frag_eval.specs.Preparing.{Prepared, Refused, set_by_all}
+use Rattle.frag_eval.specs.Runs.{Readied}
 
 -- ---- registers in range
 

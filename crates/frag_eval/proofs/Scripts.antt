@@ -1,11 +1,11 @@
 -- A script in plain numbers, line by line.
-use Rattle.std.proofs.Common.{ℕ, ◌≡◌, ◌≤◌, List, [], ◌∷◌, ◌++◌, length, flat_map, Option, Some, None, option_map, option_and_then, refl, sym, ap, ap₂, subst, ◌∙◌, arith, append_assoc, Vec, Global}
+use Rattle.std.proofs.Common.{ℕ, ◌≡◌, List, [], ◌∷◌, ◌++◌, length, flat_map, refl, sym, ap, subst, ◌∙◌, arith, append_assoc, Vec, Global}
 use Rattle.std.proofs.lemmas.List.{append-nil}
 use Rattle.frag_tree.specs.declared.event.Event.{Event}
 use Rattle.frag_tree.specs.declared.script.Script.{Script}
 use Rattle.frag_tree.specs.declared.script.ScriptLine.{ScriptLine}
 use Rattle.frag_tree.specs.Trees.{CrateTree}
-use Rattle.frag_sem.specs.Meaning.{Bound, Outcome, Standing, lines_meaning, meaning}
+use Rattle.frag_sem.specs.Meaning.{Outcome, Standing, lines_meaning, meaning}
 use Rattle.frag_sem.specs.TextMeaning.{text_at, text_meaning}
 use Rattle.frag_eval.specs.declared.deed.Deed.{Deed}
 use Rattle.frag_eval.specs.declared.deed.Deed.TheVariants as deed
@@ -15,7 +15,7 @@ use Rattle.frag_eval.specs.Courses.{deeds_dues, target_due}
 use Rattle.frag_eval.specs.Deeds.{deeds_mean}
 use Rattle.frag_eval.specs.Lowered.{AreAll, Grows, IsFew, standing_of}
 use Rattle.frag_eval.specs.Lowering.{Knows, finds_bound, outcome_at}
-use Rattle.frag_eval.specs.Prefixes.{Due, dues, dues_of, reads_in}
+use Rattle.frag_eval.specs.Prefixes.{dues, dues_of, reads_in}
 
 -- How far the deeds of the lines before the rest come, for these answers: to these events, with these words read.
 pub record Comes (krate : CrateTree) (answers : List ℕ) (all rest : List ScriptLine) (lowering : Lowering) : Type 0 where

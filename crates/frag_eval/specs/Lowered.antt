@@ -1,9 +1,8 @@
 -- How a script in plain numbers grows by a line (this project's own rule).
-use Rattle.std.specs.Prelude.{ℕ, ◌≡◌, ◌≤◌, ◌+◌, List, [], ◌∷◌, ◌++◌, length, map, Option, Some, None, option_and_then, option_map}
+use Rattle.std.specs.Prelude.{ℕ, ◌≡◌, ◌≤◌, ◌+◌, List, [], ◌∷◌, ◌++◌, length, Option, option_and_then}
 use Rattle.frag_layout.specs.declared.place.Found.{Found}
 use Rattle.frag_layout.specs.Walks.{found_seen}
 use Rattle.frag_tree.specs.declared.script.Script.{Script}
-use Rattle.frag_tree.specs.declared.script.ScriptLine.{ScriptLine}
 use Rattle.frag_tree.specs.declared.statement.Statement.{Statement}
 use Rattle.frag_tree.specs.Trees.{CrateTree}
 use Rattle.frag_sem.specs.CallPlaces.{RegisterAt, register_at}
@@ -18,8 +17,8 @@ use Rattle.frag_eval.specs.declared.names.Reading.{Reading}
 use Rattle.frag_eval.specs.declared.role.Role.{Role}
 use Rattle.frag_eval.specs.Courses.{deeds_dues}
 use Rattle.frag_eval.specs.Deeds.{deeds_mean}
-use Rattle.frag_eval.specs.Lowering.{Does, Knows, finds_bound, outcome_at}
-use Rattle.frag_eval.specs.Prefixes.{Due, dues, dues_of}
+use Rattle.frag_eval.specs.Lowering.{Does, Knows, finds_bound}
+use Rattle.frag_eval.specs.Prefixes.{Due, dues}
 
 abbrev pub target_of : RegisterAt → Role → ℕ → Target
 target_of found role line = record { address = found.address; width = found.register.word; role = role; line = line }

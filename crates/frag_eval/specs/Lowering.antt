@@ -3,9 +3,8 @@ use Rattle.std.specs.Prelude.{ℕ, ◌≡◌, ◌<◌, ◌^◌, List, ◌++◌, 
 use Rattle.std.specs.Map.{lookup}
 use Rattle.std.specs.Str.{bytes_eq}
 use Rattle.frag_tree.specs.declared.script.ScriptLine.{ScriptLine}
-use Rattle.frag_tree.specs.declared.event.Event.{Event}
 use Rattle.frag_tree.specs.Trees.{CrateTree}
-use Rattle.frag_sem.specs.Meaning.{Acts, Bound, Outcome, Standing, bound_as, outcome_of}
+use Rattle.frag_sem.specs.Meaning.{Acts, Bound, Outcome, bound_as, outcome_of}
 use Rattle.frag_sem.specs.ScriptTyping.{reader_name}
 use Rattle.frag_sem.specs.TextMeaning.{text_acts, text_at}
 use Rattle.frag_eval.specs.declared.deed.Deed.{Deed}

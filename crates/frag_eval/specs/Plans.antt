@@ -1,5 +1,5 @@
 -- What a run needs, before the bus is made ready for it.
-use Rattle.std.specs.Prelude.{ℕ, ◌≡◌, ◌≤◌, List, [], length, map, Result, Ok, Err}
+use Rattle.std.specs.Prelude.{◌≡◌, ◌≤◌, [], length, map, Result, Ok, Err}
 use Rattle.std.specs.Vec.{vec_capacity}
 use Rattle.pac_base.specs.declared.memory.NoMemory.{NoMemory}
 use Rattle.pac_bus.specs.Acts.Act.{sets}

@@ -1,17 +1,17 @@
 -- What is sought by name among modules and blocks.
-use Rattle.std.proofs.Common.{◌≡◌, ℕ, Bool, true, false, List, [], ◌∷◌, ◌++◌, map, flat_map, find, length, Option, Some, None, option_map, bytes_eq, refl, sym, ap, ◌∙◌, arith}
+use Rattle.std.proofs.Common.{◌≡◌, ℕ, Bool, true, false, List, [], ◌∷◌, ◌++◌, map, flat_map, length, Option, Some, None, option_map, bytes_eq, refl, sym, ap, ◌∙◌, arith}
 use Rattle.std.proofs.lemmas.List.{append-nil}
 use Rattle.frag_tree.specs.declared.block.Block.{Block}
 use Rattle.frag_tree.specs.declared.block.Element.{Element}
 use Rattle.frag_tree.specs.declared.block.Module.{Module}
-use Rattle.frag_tree.specs.Trees.{BlockTree, ModuleTree, block_tree, in_line, module_tree, one_block, one_register}
+use Rattle.frag_tree.specs.Trees.{ModuleTree, block_tree, in_line, module_tree, one_block, one_register}
 use Rattle.frag_tree.proofs.Trees.{block_tree-is}
 use Rattle.frag_sem.specs.Layout.{Extent, block_extent, element_extent, extent_or_none, extents, register_extent}
 use Rattle.frag_sem.specs.Modules.{beside, module_of, modules_of, same_element, top_block}
 use Rattle.frag_sem.proofs.Chains.{each_beside}
 use Rattle.frag_layout.specs.declared.laid.Laid.{Laid}
 use Rattle.frag_layout.specs.Elements.{element_of}
-use Rattle.frag_layout.specs.Layouts.{Begin, laid_of, module_extent, with_inside}
+use Rattle.frag_layout.specs.Layouts.{laid_of, module_extent, with_inside}
 use Rattle.frag_layout.proofs.Gathered.{parts_begin}
 
 pub none-left : {A : Type 0} (xs : List A) → length xs ≡ 0 → xs ≡ []

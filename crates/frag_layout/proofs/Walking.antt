@@ -1,6 +1,6 @@
 -- The walk along accessors.
-use Rattle.std.proofs.Common.{ℕ, ◌≡◌, ◌+◌, ◌-◌, ◌*◌, ◌^◌, ◌<◌, ◌≤◌, ◌⊎◌, inl, inr, min, Bool, true, false, List, [], ◌∷◌, map, length, Option, Some, None, Ok, Err, Result, IfSome, IfOk, option_map, option_and_then, bytes_eq, refl, sym, ap, subst, ◌∙◌, arith}
-use Rattle.std.specs.Prelude.{if◌then◌else◌, nat_lt, unwrap_or}
+use Rattle.std.proofs.Common.{ℕ, ◌≡◌, ◌+◌, ◌-◌, ◌^◌, ◌<◌, ◌≤◌, ◌⊎◌, inl, inr, min, true, false, List, [], ◌∷◌, map, Option, Some, None, Ok, Err, Result, IfSome, IfOk, option_map, option_and_then, refl, sym, ap, subst, ◌∙◌, arith}
+use Rattle.std.specs.Prelude.{nat_lt}
 use Rattle.std.proofs.lemmas.Bool.{cases_lt}
 use Rattle.std.proofs.lemmas.Bool.Decides.{nat_tests}
 use Rattle.std.proofs.lemmas.Option.{same_Some}
@@ -10,7 +10,7 @@ use Rattle.frag_tree.specs.declared.krate.Slot.{Slot}
 use Rattle.frag_tree.specs.declared.register.RegisterModule.{RegisterModule}
 use Rattle.frag_tree.specs.declared.statement.Call.{Call}
 use Rattle.frag_tree.specs.declared.statement.Place.{Place}
-use Rattle.frag_tree.specs.Trees.{BlockTree, CrateTree, ModuleTree, block_tree, crate_tree, one_block, one_register}
+use Rattle.frag_tree.specs.Trees.{BlockTree, ModuleTree, block_tree, crate_tree, one_block, one_register}
 use Rattle.frag_sem.specs.CallPlaces.{RegisterAt, access_named, admits, count_of, leads, offset_of, register_at, slot_named, through}
 use Rattle.frag_sem.specs.Modules.{module_of, top_block}
 use Rattle.frag_sem.proofs.Leading.{leads_keeps}

@@ -1,8 +1,8 @@
 -- How the blocks of a crate are laid out, each before those inside it (the C layout of Rust's reference, `repr(C)`). Sizes, alignments and places are in bytes.
-use Rattle.std.specs.Prelude.{ℕ, ◌≡◌, ◌≤◌, ◌^◌, Bool, nat_le, IsTrue, List, ◌∷◌, ◌++◌, map, length, Option, Some, None, IfSome, ⊤}
+use Rattle.std.specs.Prelude.{ℕ, ◌≡◌, ◌≤◌, ◌^◌, nat_le, IsTrue, List, ◌∷◌, ◌++◌, map, length, Option, IfSome, ⊤}
 use Rattle.std.specs.List.{list_all}
 use Rattle.frag_tree.specs.declared.block.StructField.{StructField}
-use Rattle.frag_tree.specs.Trees.{BlockTree, CrateTree, Modules, ModuleTree, block_tree, one_block, one_register}
+use Rattle.frag_tree.specs.Trees.{BlockTree, CrateTree, ModuleTree, block_tree, one_block, one_register}
 use Rattle.frag_sem.specs.Layout.{Extents, extent_of, extents, placed_behind, register_extent}
 use Rattle.frag_sem.specs.Layout.{Extent as Takes}
 use Rattle.frag_sem.specs.Modules.{all_blocks, blocks_in}

@@ -1,5 +1,5 @@
 -- How the walk along accessors goes, step by step.
-use Rattle.std.specs.Prelude.{ℕ, ◌≡◌, ◌≤◌, ◌<◌, ◌+◌, ◌^◌, Bool, nat_lt, max, List, [], ◌∷◌, ◌++◌, find, Option, Some, None, IfSome, option_map, unwrap_or, if◌then◌else◌}
+use Rattle.std.specs.Prelude.{ℕ, ◌≡◌, ◌≤◌, ◌<◌, ◌+◌, ◌^◌, nat_lt, max, List, [], ◌∷◌, ◌++◌, find, Option, Some, None, IfSome, option_map, unwrap_or, if◌then◌else◌}
 use Rattle.std.specs.Int.{next_multiple_of}
 use Rattle.std.specs.Str.{bytes_eq}
 use Rattle.frag_tree.specs.declared.access.Access.{Access}
@@ -7,7 +7,6 @@ use Rattle.frag_tree.specs.declared.block.StructField.{StructField}
 use Rattle.frag_tree.specs.declared.statement.Call.{Call}
 use Rattle.frag_tree.specs.Trees.{BlockTree, ModuleTree, one_block, one_register}
 use Rattle.frag_sem.specs.CallPlaces.{RegisterAt, leads, through}
-use Rattle.frag_sem.specs.Modules.{blocks_in}
 use Rattle.frag_layout.specs.declared.build.Placing.{Placing}
 use Rattle.frag_layout.specs.declared.laid.Extent.{Extent}
 use Rattle.frag_layout.specs.declared.place.Found.{Found}

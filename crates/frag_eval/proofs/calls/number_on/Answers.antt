@@ -1,4 +1,4 @@
-use Rattle.std.proofs.Common.{sym, ap, ◌∙◌}
+use Rattle.std.proofs.Common.{sym, ◌∙◌}
 use Rattle.frag_eval.specs.Fields.{proxy_type}
 use Rattle.frag_eval.proofs.OnTypes.{number-found, number-passed}
 use Rattle.frag_eval.proofs.calls.number_on.Goals as goal

@@ -1,7 +1,7 @@
 use Rattle.std.proofs.Common.{map}
 use Rattle.frag_tree.specs.Trees.{crate_tree}
 use Rattle.frag_eval.specs.Called.{places_seen, preset_seen}
-use Rattle.frag_eval.proofs.CalledPlaces.{gathered_all, gathered_call, gathered_other, gathered_start}
+use Rattle.frag_eval.proofs.CalledPlaces.{gathered_all, gathered_call, gathered_start}
 use Rattle.frag_eval.proofs.Lines.{none-left}
 use Rattle.frag_eval.proofs.preset.called_presets.Goals as goal
 

@@ -1,4 +1,4 @@
-use Rattle.std.proofs.Common.{ℕ, List, length, ◌≡◌, ◌∷◌, [], sym, ap, ◌∙◌}
+use Rattle.std.proofs.Common.{ℕ, List, sym, ap, ◌∙◌}
 use Rattle.pac_base.specs.Widths.{bits_of}
 use Rattle.frag_tree.specs.declared.statement.Link.{Link}
 use Rattle.frag_sem.specs.Meaning.{chain_written}

@@ -1,6 +1,5 @@
-use Rattle.std.proofs.Common.{sym, ap, ◌∙◌, ℕ}
+use Rattle.std.proofs.Common.{ap, ◌∙◌, ℕ}
 use Rattle.frag_sem.specs.TextMeaning.{form_written, writer_named}
-use Rattle.frag_eval.specs.Deeds.{operand_number}
 use Rattle.frag_sem.specs.Meaning.{argument}
 use Rattle.frag_eval.proofs.OnTypes.{not-written, written-by}
 use Rattle.frag_eval.proofs.put.field_put.Goals as goal

@@ -1,4 +1,4 @@
-use Rattle.std.proofs.Common.{refl, sym, subst}
+use Rattle.std.proofs.Common.{sym, subst}
 use Rattle.frag_tree.specs.Trees.{crate_tree}
 use Rattle.frag_eval.proofs.Lines.{none-left}
 use Rattle.frag_eval.proofs.Scripts.{LoweredUpTo, lowered_all, lowered_more, lowered_none}

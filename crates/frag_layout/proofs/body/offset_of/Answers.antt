@@ -1,4 +1,4 @@
-use Rattle.std.proofs.Common.{ℕ, ap, sym, ◌+◌, ◌-◌, ◌*◌, ◌^◌, ◌≡◌, ◌∙◌, min}
+use Rattle.std.proofs.Common.{ℕ, ap, sym, ◌+◌, ◌-◌, ◌*◌, ◌^◌, ◌∙◌, min}
 use Rattle.std.specs.Prelude.{unwrap_or}
 use Rattle.frag_tree.specs.declared.access.Body.{Body}
 use Rattle.frag_tree.specs.Trees.{block_tree}

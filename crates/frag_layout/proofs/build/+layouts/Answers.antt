@@ -1,4 +1,4 @@
-use Rattle.std.proofs.Common.{ap, map, drop, sym, subst, ◌≡◌, ◌+◌, ◌++◌, ◌∙◌}
+use Rattle.std.proofs.Common.{ap, map, drop, sym, subst, ◌≡◌, ◌+◌, ◌∙◌}
 use Rattle.frag_tree.specs.Trees.{block_tree, in_line, module_tree}
 use Rattle.frag_tree.proofs.Trees.{block_tree-is, module_tree-block, module_tree-register}
 use Rattle.frag_sem.specs.Modules.{blocks_in}

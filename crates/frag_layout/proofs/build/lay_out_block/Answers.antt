@@ -1,9 +1,8 @@
-use Rattle.std.proofs.Common.{ap, map, length, refl, sym, subst, ◌≡◌, ◌++◌, ◌∙◌}
-use Rattle.std.proofs.lemmas.List.{append-nil, length-map}
+use Rattle.std.proofs.Common.{ap, length, refl, sym, subst, ◌∙◌}
+use Rattle.std.proofs.lemmas.List.{length-map}
 use Rattle.frag_tree.specs.Trees.{block_tree}
 use Rattle.frag_sem.specs.Layout.{extents, type_extent}
 use Rattle.frag_sem.specs.Modules.{blocks_in}
-use Rattle.frag_layout.specs.declared.build.Placing.{Placing}
 use Rattle.frag_layout.specs.Layouts.{Begin, IsExtent, laid_of}
 use Rattle.frag_layout.proofs.Gathered.{begin_all}
 use Rattle.frag_layout.proofs.Placed.{PlacedUpTo, align_some, ends_fit, placed_all, placed_more, placed_none}

@@ -1,4 +1,4 @@
-use Rattle.std.proofs.Common.{sym, ap, map, subst, ◌∙◌, Some, Option, IfSome}
+use Rattle.std.proofs.Common.{sym, ap, map, subst, ◌∙◌, Some}
 use Rattle.frag_tree.specs.Trees.{in_line, module_tree}
 use Rattle.frag_sem.specs.Modules.{blocks_in}
 use Rattle.frag_layout.specs.Layouts.{Begin}

@@ -1,11 +1,11 @@
-use Rattle.std.proofs.Common.{ap, sym, subst, option_map, Some, None, List, ◌≡◌, ◌∙◌}
+use Rattle.std.proofs.Common.{ap, sym, subst, option_map, Some, None, ◌≡◌, ◌∙◌}
 use Rattle.std.specs.Borrow.{Bor}
 use Rattle.frag_tree.specs.declared.access.Access.{Access}
-use Rattle.frag_tree.specs.Trees.{ModuleTree, block_tree, one_register}
+use Rattle.frag_tree.specs.Trees.{ModuleTree, block_tree}
 use Rattle.frag_sem.specs.CallPlaces.{access_named}
 use Rattle.frag_layout.specs.declared.inner.Inner.{Inner}
 use Rattle.frag_layout.specs.Layouts.{HasLayouts, inner_tree}
-use Rattle.frag_layout.specs.Walks.{GoesOn, Goes}
+use Rattle.frag_layout.specs.Walks.{Goes}
 use Rattle.frag_layout.proofs.Walking.{goes_nowhere, goes_through, past_register}
 use Rattle.frag_layout.proofs.place.into.Goals as goal
 

@@ -1,8 +1,7 @@
-use Rattle.std.proofs.Common.{ap, sym, subst, length, Option, List, Some, None, option_map, ◌∷◌, ◌≡◌, ◌∙◌}
+use Rattle.std.proofs.Common.{ap, sym, subst, Option, List, option_map, ◌∙◌}
 use Rattle.frag_tree.specs.declared.statement.Call.{Call}
 use Rattle.frag_tree.specs.Trees.{block_tree}
 use Rattle.frag_sem.specs.CallPlaces.{RegisterAt, leads}
-use Rattle.frag_layout.specs.declared.place.Found.{Found}
 use Rattle.frag_layout.specs.Layouts.{inner_tree}
 use Rattle.frag_layout.specs.Walks.{StartsBelow, found_seen}
 use Rattle.frag_layout.proofs.Seeking.{none-left}

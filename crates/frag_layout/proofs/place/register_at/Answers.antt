@@ -1,9 +1,9 @@
-use Rattle.std.proofs.Common.{ap, sym, subst, map, flat_map, List, Option, Some, None, option_map, ◌≡◌, ◌∙◌}
+use Rattle.std.proofs.Common.{ap, sym, subst, map, flat_map, List, Option, option_map, ◌≡◌, ◌∙◌}
 use Rattle.frag_tree.specs.declared.statement.Call.{Call}
 use Rattle.frag_tree.specs.Trees.{block_tree, crate_tree, one_block}
 use Rattle.frag_sem.specs.CallPlaces.{RegisterAt, leads, register_at, slot_named}
 use Rattle.frag_sem.specs.Modules.{top_block}
-use Rattle.frag_layout.specs.Layouts.{AreLaid, inner_tree, laid_of, with_inside}
+use Rattle.frag_layout.specs.Layouts.{inner_tree, laid_of, with_inside}
 use Rattle.frag_layout.specs.Walks.{StartsBelow, found_seen}
 use Rattle.frag_layout.proofs.Gathered.{laid_below}
 use Rattle.frag_layout.proofs.Walking.{led, no_slot, no_top}

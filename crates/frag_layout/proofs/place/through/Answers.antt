@@ -1,10 +1,10 @@
-use Rattle.std.proofs.Common.{ℕ, ap, sym, subst, Option, Some, None, option_map, ◌≡◌, ◌+◌, ◌∙◌}
+use Rattle.std.proofs.Common.{ℕ, ap, sym, subst, Option, ◌∙◌}
 use Rattle.frag_tree.specs.Trees.{block_tree}
-use Rattle.frag_sem.specs.CallPlaces.{admits, leads, offset_of, through}
+use Rattle.frag_sem.specs.CallPlaces.{admits, leads, through}
 use Rattle.frag_layout.specs.declared.place.Site.{Site}
 use Rattle.frag_sem.specs.Modules.{blocks_in, module_of}
 use Rattle.frag_layout.specs.Layouts.{Begin, inner_tree}
-use Rattle.frag_layout.specs.Walks.{GoesOn, small}
+use Rattle.frag_layout.specs.Walks.{GoesOn}
 use Rattle.frag_layout.proofs.Gathered.{inside_laid}
 use Rattle.frag_layout.proofs.Walking.{passed, stuck}
 use Rattle.frag_layout.proofs.place.through.Goals as goal

@@ -1,7 +1,7 @@
 use Rattle.std.proofs.Common.{ap, sym, map, flat_map, option_map, bytes_eq, ◌∙◌}
 use Rattle.frag_tree.specs.Trees.{block_tree, one_block}
 use Rattle.frag_layout.specs.Layouts.{laid_of, with_inside}
-use Rattle.frag_layout.proofs.Seeking.{top-begins, top-found, top-missing, top-passed}
+use Rattle.frag_layout.proofs.Seeking.{top-begins, top-found, top-passed}
 use Rattle.frag_layout.proofs.place.top_block.Goals as goal
 
 pub returns-then-eq-clause-tree : goal.returns-then-eq-clause-tree
