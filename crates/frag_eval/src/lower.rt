@@ -178,7 +178,7 @@ fn lower_modify<'a>(
         found.register,
         chain,
     )?;
-    lowering.deeds.push(Deed::Write {
+    let write = Deed::Write {
         at: target(found, Role::ModifyWrite, line),
         start: Start::Based {
             read: reading.read,
@@ -186,7 +186,8 @@ fn lower_modify<'a>(
             zero: zero_to_modify(found.register),
         },
         puts,
-    })?;
+    };
+    lowering.deeds.push(write)?;
     Ok(())
 }
 
