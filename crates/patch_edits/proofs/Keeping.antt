@@ -1,5 +1,5 @@
 -- What a walk keeps where its edit does: what is said of each element, and that siblings are distinct.
-use Rattle.std.proofs.Common.{◌≡◌, Bool, true, false, List, [], ◌∷◌, Option, Some, Ok, refl, sym, ap, ◌∙◌, subst}
+use Rattle.std.proofs.Common.{◌≡◌, Bool, true, false, List, [], ◌∷◌, Option, Some, Ok, ap, ◌∙◌, subst}
 use Rattle.std.specs.List.{AllByRecursion}
 use Rattle.patch_sem.proofs.Outcomes.{both_ok}
 use Rattle.patch_sem.specs.Steps.{Outcome, ◌>>=◌}

@@ -1,5 +1,5 @@
 -- Siblings in a list that is edited from the front: what is passed, and what is still to come.
-use Rattle.std.proofs.Common.{◌≡◌, ◌⊎◌, ◌≤◌, ◌<◌, ℕ, ◌+◌, Bool, List, [], ◌∷◌, ◌++◌, map, take, drop, set, length, slice_get, get_or, Option, Some, Ok, Err, refl, sym, ap, ap₂, ◌∙◌, subst, inl, inr, arith, Result, IsErrAnd}
+use Rattle.std.proofs.Common.{◌≡◌, ◌⊎◌, ◌≤◌, ℕ, ◌+◌, Bool, List, [], ◌∷◌, ◌++◌, map, take, drop, set, length, slice_get, Some, Ok, Err, refl, sym, ap, ap₂, ◌∙◌, inl, inr, arith, Result, IsErrAnd}
 use Rattle.std.proofs.lemmas.List.{drop_all, drop_more, drop-set-lt, map-append, take_all, take_more_set}
 use Rattle.std.proofs.lemmas.Option.{get_or_from_slice_get, slice_get_within}
 use Rattle.patch_sem.specs.declared.fault.PatchFault.{PatchFault}

@@ -1,11 +1,10 @@
 -- A command in the tree is the command at each of its parents in turn, among the flat rows: for edits that leave no more
 -- elements than there were.
-use Rattle.std.proofs.Common.{◌≡◌, ◌≤◌, ℕ, ◌+◌, Bool, true, false, cond, ◌&&◌, List, [], ◌∷◌, ◌++◌, map, Option, Some, None, Ok, Err, refl, sym, ap, ap₂, ◌∙◌, subst, append-nil, append_assoc, arith, map-id}
+use Rattle.std.proofs.Common.{◌≡◌, ◌≤◌, ℕ, ◌+◌, Bool, true, false, cond, List, [], ◌∷◌, ◌++◌, map, Option, Some, None, Ok, Err, refl, sym, ap, ap₂, ◌∙◌, subst, append-nil, append_assoc, arith, map-id}
 use Rattle.std.specs.List.{AllByRecursion}
 use Rattle.std.proofs.lemmas.List.{map-append}
-use Rattle.patch_model.specs.Acts.{Deed, Order}
+use Rattle.patch_model.specs.Acts.{Order}
 use Rattle.patch_sem.proofs.Outcomes.{both_ok}
-use Rattle.patch_sem.specs.declared.fault.PatchFault.{PatchFault}
 use Rattle.patch_sem.specs.Patching.{acted, applied, applied_at, applied_to, places_of, put_inside, within_limit}
 use Rattle.patch_sem.specs.Selecting.{Rows, kind_at, last_kind, selects}
 use Rattle.patch_sem.specs.Steps.{Outcome, ◌>>=◌}
@@ -21,12 +20,12 @@ use Rattle.svd_rows.proofs.Exchanging.{begins-behind, begins-longer, some_pass-a
 use Rattle.svd_rows.proofs.Finding.{map-under_nothing, paths-rows}
 use Rattle.svd_rows.proofs.Standing.{some_pass-own}
 use Rattle.svd_rows.proofs.Passing.{some_pass-append}
-use Rattle.svd_rows.specs.Elements.{IsAbsent, IsDistinct, count, found, found_in, step_down}
+use Rattle.svd_rows.specs.Elements.{IsDistinct, count, found, found_in, step_down}
 use Rattle.svd_rows.specs.Forest.{Tree, leaf, node, steps}
-use Rattle.svd_rows.specs.LookUps.{element_paths, inside}
+use Rattle.svd_rows.specs.LookUps.{element_paths}
 use Rattle.svd_rows.specs.Paths.{begins, exactly, is_within}
 use Rattle.svd_rows.specs.RowEdits.{some_pass}
-use Rattle.svd_rows.specs.Rows.{forest_rows, own, rows, under, under_path}
+use Rattle.svd_rows.specs.Rows.{own, rows, under_path}
 
 -- ---- steps one after the other
 
