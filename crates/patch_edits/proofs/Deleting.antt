@@ -6,7 +6,8 @@ use Rattle.patch_model.specs.Acts.{PatternItems, deletes, opens}
 use Rattle.patch_sem.specs.declared.fault.PatchFault.TheVariants.{NoMatch}
 use Rattle.patch_sem.specs.Patching.{deleting, done_at, opening}
 use Rattle.patch_sem.specs.Selecting.{Rows, selects}
-use Rattle.patch_sem.specs.Steps.{Outcome, ◌>>=◌, unless_none}
+use Rattle.patch_sem.specs.Steps.{◌>>=◌, unless_none}
+use Rattle.patch_edits.proofs.Binds.{given}
 use Rattle.patch_edits.proofs.Contexts.{tree_with}
 use Rattle.glob_select.specs.Matching.{matches}
 use Rattle.patch_edits.proofs.EditedTrees.{item-selected}
@@ -71,9 +72,6 @@ deletion-agrees line pattern parents (Some set) keys f distinct = deleted-same l
 deletion-agrees line pattern parents (Some value) keys f distinct = deleted-same line pattern keys f
 
 -- ---- what an edit that went through has left
-
-abbrev given : Below → Outcome Below
-given f = Ok f
 
 gave-some : (line : ℕ) (xs : List Step) (made new : Below) → unless_none line xs (given made) ≡ given new → made ≡ new
 gave-some line [] made new e = cc
