@@ -1,0 +1,5 @@
+pub mod Overlaps
+pub mod Spots
+pub mod Walk
+pub mod Search
+pub mod Sought
