@@ -1,5 +1,5 @@
 -- Where no register stands off its width, each member of a register that the walk meets is a multiple of its bytes.
-use Rattle.std.proofs.Common.{◌≡◌, ◌≢◌, ℕ, zero, suc, ◌+◌, ◌%◌, ◌<◌, Bool, true, false, not, nat_eq, cond, List, [], ◌∷◌, ◌++◌, map, filter, Option, Some, None, unwrap_or, refl, sym, ap, ◌∙◌, subst, arith}
+use Rattle.std.proofs.Common.{◌≡◌, ℕ, zero, suc, ◌+◌, ◌%◌, ◌<◌, Bool, true, false, not, nat_eq, cond, List, [], ◌∷◌, ◌++◌, map, Option, Some, None, refl, sym, ◌∙◌, subst, arith}
 use Rattle.std.specs.List.{AllByRecursion, flat_map, range_with_len}
 use Rattle.std.proofs.lemmas.Bool.Decides.{nat_tests}
 use Rattle.overlap_sweep.specs.Search.{IsEven}
@@ -7,7 +7,7 @@ use Rattle.overlap_sweep.specs.Walk.{way_inside, spot_of, spots_in, spots_of_per
 use Rattle.overlap_sweep.specs.declared.spot.Spot.{Spot}
 use Rattle.overlap_sweep.specs.declared.spot.Way.{Way}
 use Rattle.reg_table.specs.Walk.{IsAmong, props_inside}
-use Rattle.reg_table.proofs.Exchanges.{every-append, every-left, every-right, every-map, every-weaker}
+use Rattle.reg_table.proofs.Exchanges.{every-append, every-left, every-right}
 use Rattle.reg_table.proofs.Faults.{Chosen, HasMembers, as_many, further, has-members, none-chosen, none-pass_of, not_false}
 use Rattle.reg_table.proofs.Tables.{ends-with, address-down, properties-down, device-address, device-holds, distinct-steps}
 use Rattle.svd_model.specs.declared.device.Device.{Device}
@@ -17,16 +17,16 @@ use Rattle.svd_model.specs.Facts.{IsUnfolded, IsUnfoldedElement}
 use Rattle.svd_model.specs.Keys.{Key}
 use Rattle.svd_model.specs.Properties.{size_at}
 use Rattle.svd_model.specs.Stating.{value_of, stated_dim, indexes_of, is_of, start_of, properties_of, address_of, keys_down, paths_of, paths_of_kind}
-use Rattle.svd_model.specs.Steps.{Step, register, same_step}
+use Rattle.svd_model.specs.Steps.{Step, register}
 use Rattle.svd_model.specs.Trees.{device_tree, device_rows, device_places}
-use Rattle.svd_model.specs.Visits.{Visit, visit_at, visits_of, visit_below, visits}
+use Rattle.svd_model.specs.Visits.{Visit, visit_at, visits_of, visits}
 use Rattle.svd_model.proofs.Stated.{device-dim}
 use Rattle.svd_model.proofs.Walking.{walk-rows}
 use Rattle.svd_rows.specs.Elements.{Every}
 use Rattle.svd_rows.specs.Forest.{Forest, leaf, node}
 use Rattle.svd_rows.specs.LookUps.{ends_with}
 use Rattle.svd_rows.specs.Ranks.{stated}
-use Rattle.svd_rows.specs.Rows.{Row}
+use Rattle.svd_rows.specs.Rows.{Row, rows}
 
 -- each member of each register among siblings and below them stands at a multiple of its bytes
 unfoldable EvenIn : ℕ → Props → Forest Step Key → Type 0
@@ -49,9 +49,9 @@ among-indexes : (P : Option ℕ → Type 0) (dim : Option ℕ) → ((index : Opt
 among-indexes P None all = (all None tt, tt)
 among-indexes P (Some n) all = among-range P 0 n n (omega arith) (λ index less. all (Some index) less)
 
-even-spot : (way : List Way) (name : List ℕ) (start : ℕ) (props : Props) (keys : List Key) → start % bytes_of (width_of (size_at props)) ≡ 0 → IsEven (spot_of way name start props keys)
+even-spot : (way : List Way) (name : List ℕ) (start : ℕ) (props : Props) (keys : List Key) (own : List (Row Step Key)) → start % bytes_of (width_of (size_at props)) ≡ 0 → IsEven (spot_of way name start props keys own)
 unfolding IsEven spot_of
-even-spot way name start props keys even = (width_of (size_at props), refl, even)
+even-spot way name start props keys own even = (width_of (size_at props), refl, even)
 
 even-in : (way : List Way) (start : ℕ) (outer : Props) (f : Forest Step Key) → EvenIn start outer f → AllByRecursion IsEven (spots_in way start outer f)
 unfolding EvenIn spots_in
@@ -66,13 +66,13 @@ even-in way start outer (node s ks c n) even =
     (even-in way start outer n even.1)
   where
     own : Option ℕ → Bool → List Spot
-    own index b = cond b (spot_of (way_inside way s ks index) s.name (start + start_of ks index) (props_inside ks outer) ks ∷ []) []
+    own index b = cond b (spot_of (way_inside way s ks index) s.name (start + start_of ks index) (props_inside ks outer) ks (rows (record { keys = ks; below = c })) ∷ []) []
 
     at : Option ℕ → List Spot
     at index = own index (is_of register s) ++ spots_in (way_inside way s ks index) (start + start_of ks index) (props_inside ks outer) c
 
     own-even : (index : Option ℕ) (b : Bool) → (b ≡ true → (start + start_of ks index) % bytes_of (width_of (size_at (props_inside ks outer))) ≡ 0) → AllByRecursion IsEven (own index b)
-    own-even index true h = (even-spot (way_inside way s ks index) s.name (start + start_of ks index) (props_inside ks outer) ks (h refl), tt)
+    own-even index true h = (even-spot (way_inside way s ks index) s.name (start + start_of ks index) (props_inside ks outer) ks (rows (record { keys = ks; below = c })) (h refl), tt)
     own-even index false h = tt
 
 -- ---- what the flat rows tell
@@ -103,7 +103,7 @@ even-visits path down chosen (node s ks c n) told elements has = (
   λ index among.
       let all = further down chosen ks index has (has-members ks elements.0.members) among in
       let here : is_of register s ≡ true → address_of (down ++ ks ∷ []) (chosen ++ index ∷ []) % bytes_of (width_down (down ++ ks ∷ [])) ≡ 0 =
-          λ is. even-chosen (bytes_of (width_down (down ++ ks ∷ []))) (down ++ ks ∷ []) (chosen ++ index ∷ []) all (told.0 (ends-with (is_of register) path s ∙ is)) in
+      λ is. even-chosen (bytes_of (width_down (down ++ ks ∷ []))) (down ++ ks ∷ []) (chosen ++ index ∷ []) all (told.0 (ends-with (is_of register) path s ∙ is)) in
       let inner = even-visits (path ++ s ∷ []) (down ++ ks ∷ []) (chosen ++ index ∷ []) c (every-left IsToldEven (visits (path ++ s ∷ []) (down ++ ks ∷ []) c) (visits path down n) told.1) elements.1 all in
       let moved : ◌≡◌ {A = ℕ × Props} (address_of (down ++ ks ∷ []) (chosen ++ index ∷ []), properties_of (down ++ ks ∷ [])) (address_of down chosen + start_of ks index, props_inside ks (properties_of down)) = λ i. (address-down down chosen ks index (as_many down chosen has) i, properties-down down ks i) in (
         subst (λ (x : ℕ × Props). is_of register s ≡ true → x.0 % bytes_of (width_of (size_at x.1)) ≡ 0) moved here,

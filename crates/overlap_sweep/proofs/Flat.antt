@@ -1,8 +1,9 @@
 -- The members of registers that the flat rows tell are those that a walk of the tree meets.
-use Rattle.std.proofs.Common.{◌≡◌, ℕ, suc, ◌+◌, Bool, true, false, ◌&&◌, cond, List, length, [], ◌∷◌, ◌++◌, map, filter, drop, Option, Some, None, is_some, refl, sym, ap, ap₂, ◌∙◌, append_assoc, append-nil, zero-add, arith}
+use Rattle.std.proofs.Common.{◌≡◌, ℕ, suc, ◌+◌, Bool, true, false, ◌&&◌, cond, List, length, [], ◌∷◌, ◌++◌, map, filter, drop, Option, None, is_some, refl, sym, ap, ap₂, ◌∙◌, append_assoc, append-nil, zero-add, arith}
 use Rattle.std.specs.List.{AllByRecursion, flat_map}
 use Rattle.std.proofs.lemmas.Grind.{flat_map-append}
 use Rattle.std.proofs.lemmas.List.Folds.{flat_map-map}
+use Rattle.overlap_sweep.specs.Fields.{shared_fields}
 use Rattle.overlap_sweep.specs.Overlaps.{register_members, last_name, is_alternate_cluster, stated_alternate, stated_group}
 use Rattle.overlap_sweep.specs.Walk.{way_inside, spot_of, spots_in, spots_of_peripherals, peripheral_way}
 use Rattle.overlap_sweep.specs.declared.spot.Spot.{Spot}
@@ -27,7 +28,7 @@ use Rattle.svd_model.specs.Visits.{Visit, visit_below, visits}
 use Rattle.svd_model.proofs.Stated.{device-dim}
 use Rattle.svd_rows.specs.Elements.{IsDistinct, Every}
 use Rattle.svd_rows.specs.Forest.{Forest, leaf, node, siblings}
-use Rattle.svd_rows.specs.LookUps.{ends_with, keys_of}
+use Rattle.svd_rows.specs.LookUps.{ends_with, inside, keys_of}
 use Rattle.svd_rows.specs.Ranks.{stated}
 use Rattle.svd_rows.specs.Rows.{Row, rows}
 use Rattle.svd_rows.proofs.LookUps.{keys_of-rows}
@@ -56,6 +57,7 @@ spot_at all member = record {
   bytes = bytes_of (width_down (keys_down all member.0));
   alternate = value_of stated_alternate (keys_at all member.0);
   grouped = is_some (value_of stated_group (keys_at all member.0));
+  shared = shared_fields (properties_of (keys_down all member.0)) (inside same_step member.0 all);
 }
 
 -- a member, where its element is a register
@@ -98,6 +100,10 @@ module _ (all : List (Row Step Key)) where
   unfolding Known
   down-known visit known = ap (λ (visit : Visit). visit.down) known
 
+  own-known : (visit : Visit) → Known all visit → inside same_step visit.path all ≡ visit.own
+  unfolding Known
+  own-known visit known = ap (λ (visit : Visit). visit.own) known
+
   alternate-here : (path : List Step) (s : Step) (ks : List Key) → keys_at all (path ++ s ∷ []) ≡ ks → is_alternate_cluster all (path ++ s ∷ []) ≡ (is_of cluster s && is_some (value_of stated_alternate ks))
   unfolding is_alternate_cluster
   alternate-here path s ks is = ap₂ (λ b keys. b && is_some (value_of stated_alternate keys)) (ends-with (is_of cluster) path s) is
@@ -129,7 +135,7 @@ module _ (all : List (Row Step Key)) where
       ∙ flat_map-flat_map (λ member. spots_from path chosen (below s member)) (members_at inner) indexes
       ∙ flat_map-agree _ _ (one_index path chosen s inner) indexes
 
-  spots-here : (first : Step) (path : List Step) (a b : Option ℕ) (chosen : List (Option ℕ)) (down : List (List Key)) (s : Step) (ks : List Key) (c : Forest Step Key) (index : Option ℕ) → length path ≡ length chosen → length down ≡ suc (suc (length chosen)) → Known all (visit_below (first ∷ path) down s ks c) → spots_of_member all (first ∷ (path ++ s ∷ []), a ∷ b ∷ (chosen ++ index ∷ [])) ≡ cond (is_of register s) (spot_of (way_inside (way_from all [] (first ∷ path) (b ∷ chosen)) s ks index) s.name (address_of down (a ∷ b ∷ chosen) + start_of ks index) (props_inside ks (properties_of down)) ks ∷ []) []
+  spots-here : (first : Step) (path : List Step) (a b : Option ℕ) (chosen : List (Option ℕ)) (down : List (List Key)) (s : Step) (ks : List Key) (c : Forest Step Key) (index : Option ℕ) → length path ≡ length chosen → length down ≡ suc (suc (length chosen)) → Known all (visit_below (first ∷ path) down s ks c) → spots_of_member all (first ∷ (path ++ s ∷ []), a ∷ b ∷ (chosen ++ index ∷ [])) ≡ cond (is_of register s) (spot_of (way_inside (way_from all [] (first ∷ path) (b ∷ chosen)) s ks index) s.name (address_of down (a ∷ b ∷ chosen) + start_of ks index) (props_inside ks (properties_of down)) ks (rows (record { keys = ks; below = c })) ∷ []) []
   unfolding spots_of_member spot_of
   spots-here first path a b chosen down s ks c index same longer known =
       let visit = visit_below (first ∷ path) down s ks c in
@@ -140,6 +146,7 @@ module _ (all : List (Row Step Key)) where
       let way = way-here first path b chosen s ks index same keys in
       let start = ap (λ d. address_of d (a ∷ b ∷ (chosen ++ index ∷ []))) all_down ∙ at in
       let bytes = ap (λ d. bytes_of (width_down d)) all_down ∙ ap (λ props. bytes_of (width_of (size_at props))) (properties-down down ks) in
+      let shared = ap₂ (λ d own. shared_fields (properties_of d) own) all_down (own-known visit known) ∙ ap (λ props. shared_fields props visit.own) (properties-down down ks) in
       λ i. cond (is i) (record {
         way = way i;
         name = last-name (first ∷ path) s i;
@@ -147,6 +154,7 @@ module _ (all : List (Row Step Key)) where
         bytes = bytes i;
         alternate = value_of stated_alternate (keys i);
         grouped = is_some (value_of stated_group (keys i));
+        shared = shared (i);
       } ∷ []) []
 
   spots-spread : (first : Step) (path : List Step) (a b : Option ℕ) (chosen : List (Option ℕ)) (down : List (List Key)) (g : Forest Step Key) → length path ≡ length chosen → length down ≡ suc (suc (length chosen)) → AllByRecursion (Known all) (visits (first ∷ path) down g) → flat_map (spots_from (first ∷ path) (a ∷ b ∷ chosen)) (spread g) ≡ spots_in (way_from all [] (first ∷ path) (b ∷ chosen)) (address_of down (a ∷ b ∷ chosen)) (properties_of down) g

@@ -1,50 +1,27 @@
 -- Two members overlap, as the flat rows tell it, where what is kept of them meets; and the first pair of all pairs is the
 -- first that is found.
-use Rattle.std.proofs.Common.{◌≡◌, ℕ, ◌+◌, Bool, true, false, ◌&&◌, ◌||◌, not, cond, List, [], ◌∷◌, ◌++◌, map, filter, drop, Option, Some, None, option_map, refl, sym, ap, ap₂, ◌∙◌, subst, append_assoc, append-nil}
-use Rattle.std.specs.List.{list_any, find}
-use Rattle.std.proofs.lemmas.List.Elements.{filter-append}
-use Rattle.pac_base.specs.declared.path.Step.{Step as Written}
+use Rattle.std.proofs.Common.{◌≡◌, ℕ, Bool, true, false, ◌&&◌, ◌||◌, not, cond, List, [], ◌∷◌, ◌++◌, map, drop, Option, Some, None, option_map, refl, sym, ap, ap₂, ◌∙◌, subst, append_assoc, append-nil}
+use Rattle.std.specs.List.{flat_map, list_any}
+use Rattle.overlap_sweep.specs.declared.field.FieldSpot.{FieldSpot}
 use Rattle.overlap_sweep.specs.declared.overlap.Overlap.{Overlap}
+use Rattle.overlap_sweep.specs.declared.overlap.Shared.TheVariants.{Fields, Registers}
 use Rattle.overlap_sweep.specs.declared.spot.Spot.{Spot}
 use Rattle.overlap_sweep.specs.declared.spot.Way.{Way}
-use Rattle.overlap_sweep.specs.Overlaps.{first_of, first_register_overlap, in_one_peripheral, is_alternate_cluster, is_register_overlap, is_the_name, register_members, register_overlaps, share_byte, stands_apart, told_member, told_steps}
+use Rattle.overlap_sweep.specs.Fields.{field_pairs, first_of, share_one, shared_fields, told_fields}
+use Rattle.overlap_sweep.specs.Overlaps.{field_overlaps, first_register_overlap, first_shared, in_one_peripheral, is_alternate_cluster, is_register_overlap, is_the_name, register_members, register_overlaps, stands_apart, plain_path, told_in, told_member, told_steps}
 use Rattle.overlap_sweep.specs.declared.search.Meeting.{Meeting}
-use Rattle.overlap_sweep.specs.Sought.{IsMeeting, told_at, told_it}
+use Rattle.overlap_sweep.specs.Sought.{IsMeeting, plain_way, shared_in, told_at, told_it, told_pair}
 use Rattle.overlap_sweep.specs.Search.{first_against, first_pair, or_else}
 use Rattle.overlap_sweep.specs.Spots.{meets, parts, same_element, same_peripheral, some_alternate, told_way}
+use Rattle.overlap_sweep.proofs.First.{first-append, first-pairs}
 use Rattle.overlap_sweep.proofs.Flat.{indexes_below, way_from, spot_at}
 use Rattle.reg_table.specs.Registers.{Member}
-use Rattle.svd_model.specs.Checking.{pairs_behind}
 use Rattle.svd_model.specs.Keys.{Key}
-use Rattle.svd_model.specs.Stating.{ways_down}
-use Rattle.svd_model.specs.Steps.{Step, same_key}
+use Rattle.svd_model.specs.Stating.{keys_down, properties_of, ways_down}
+use Rattle.svd_model.specs.Steps.{Step, same_key, same_step}
+use Rattle.svd_rows.specs.LookUps.{inside}
 use Rattle.svd_rows.specs.Paths.{exactly, begins}
 use Rattle.svd_rows.specs.Rows.{Row}
-
--- ---- the first of all pairs
-
-first-append : {A : Type 0} (xs ys : List A) → first_of (xs ++ ys) ≡ or_else (first_of xs) (first_of ys)
-first-append [] ys = refl
-first-append (x ∷ xs) ys = refl
-
-abbrev passes : {A : Type 0} → (A → A → Bool) → A × A → Bool
-passes test pair = test pair.0 pair.1
-
-first-against : {A : Type 0} (test : A → A → Bool) (x : A) (before : List A) → first_of (filter (passes test) (map (λ first. (first, x)) before)) ≡ option_map (λ first. (first, x)) (first_against test x before)
-first-against test x [] = refl
-first-against {A = A} test x (first ∷ before) = cases (test first x) (first-against test x before)
-  where
-    cases : (b : Bool) → first_of (filter (passes test) (map (λ first. (first, x)) before)) ≡ option_map (λ first. (first, x)) (first_against test x before) → first_of (cond b ((first, x) ∷ filter (passes test) (map (λ first. (first, x)) before)) (filter (passes test) (map (λ first. (first, x)) before))) ≡ option_map (λ first. (first, x)) (cond b (Some first) (first_against test x before))
-    cases true rest = refl
-    cases false rest = rest
-
-first-pairs : {A : Type 0} (test : A → A → Bool) (before xs : List A) → first_of (filter (passes test) (pairs_behind before xs)) ≡ first_pair test before xs
-unfolding first_pair pairs_behind
-first-pairs test before [] = refl
-first-pairs {A = A} test before (x ∷ xs) =
-    ap first_of (filter-append (passes test) (map (λ first. (first, x)) before) (pairs_behind (before ++ x ∷ []) xs))
-    ∙ first-append (filter (passes test) (map (λ first. (first, x)) before)) (filter (passes test) (pairs_behind (before ++ x ∷ []) xs))
-    ∙ ap₂ or_else (first-against test x before) (first-pairs test (before ++ x ∷ []) xs)
 
 -- ---- pairs of what is seen of members
 
@@ -78,10 +55,6 @@ module _ {A B : Type 0} (see : A → B) (one : A → A → Bool) (other : B → 
       map-push : (ys : List A) (y : A) → map see (ys ++ y ∷ []) ≡ map see ys ++ see y ∷ []
       map-push [] y = refl
       map-push (z ∷ ys) y = ap (λ r. see z ∷ r) (map-push ys y)
-
--- the two as they are told
-abbrev told_pair : Spot × Spot → Overlap
-told_pair pair = record { first = told_way pair.0.way; second = told_way pair.1.way }
 
 -- ---- members that stand apart
 
@@ -158,7 +131,7 @@ module _ (all : List (Row Step Key)) where
       (ap₂ (λ a b. a || b) (parts-from [] one.0 (drop 1 one.1) [] other.0 (drop 1 other.1)) (parts-from [] other.0 (drop 1 other.1) [] one.0 (drop 1 one.1)))
     where
       share : Bool
-      share = share_byte (spot_at all one).start (spot_at all one).bytes (spot_at all other).start (spot_at all other).bytes
+      share = share_one (spot_at all one).start (spot_at all one).bytes (spot_at all other).start (spot_at all other).bytes
 
       grouped : Bool
       grouped = (spot_at all one).grouped || (spot_at all other).grouped
@@ -187,6 +160,47 @@ module _ (all : List (Row Step Key)) where
       told None = refl
       told (Some pair) = sym (λ i. Some (record { first = told-from [] pair.0.0 (drop 1 pair.0.1) i; second = told-from [] pair.1.0 (drop 1 pair.1.1) i }))
 
+-- ---- fields
+
+first-map : {A B : Type 0} (f : A → B) (xs : List A) → first_of (map f xs) ≡ option_map f (first_of xs)
+first-map f [] = refl
+first-map f (x ∷ xs) = refl
+
+module _ (all : List (Row Step Key)) where
+  plain-from : (front path : List Step) (indexes : List (Option ℕ)) → plain_way (way_from all front path indexes) ≡ plain_path path
+  unfolding way_from
+  plain-from front [] indexes = refl
+  plain-from front (s ∷ path) indexes = ap (λ r. record { name = s.name; index = None } ∷ r) (plain-from (front ++ s ∷ []) path (indexes_below indexes))
+
+  fields_at : Member → List (FieldSpot × FieldSpot)
+  fields_at member = field_pairs (properties_of (keys_down all member.0)) (inside same_step member.0 all)
+
+  shared-here : (member : Member) → first_of (map (λ pair. told_in (plain_path member.0) (told_fields pair)) (fields_at member)) ≡ option_map (told_in (plain_way (spot_at all member).way)) (spot_at all member).shared
+  unfolding shared_fields fields_at
+  shared-here member =
+      first-map (λ pair. told_in (plain_path member.0) (told_fields pair)) (fields_at member)
+      ∙ by (first_of (fields_at member))
+      ∙ ap (λ path. option_map (told_in path) (spot_at all member).shared) (sym (plain-from [] member.0 (drop 1 member.1)))
+    where
+      by : (o : Option (FieldSpot × FieldSpot)) → option_map (λ pair. told_in (plain_path member.0) (told_fields pair)) o ≡ option_map (told_in (plain_path member.0)) (option_map told_fields o)
+      by None = refl
+      by (Some pair) = refl
+
+  shared-members : (members : List Member) → first_of (flat_map (λ member. map (λ pair. told_in (plain_path member.0) (told_fields pair)) (fields_at member)) members) ≡ shared_in (map (spot_at all) members)
+  unfolding shared_in
+  shared-members [] = refl
+  shared-members (member ∷ members) =
+      first-append (map (λ pair. told_in (plain_path member.0) (told_fields pair)) (fields_at member)) (flat_map (λ member. map (λ pair. told_in (plain_path member.0) (told_fields pair)) (fields_at member)) members)
+      ∙ ap₂ or_else (shared-here member) (shared-members members)
+
+  pub first-fields : (spots : List Spot) → map (spot_at all) (register_members all) ≡ spots → first_of (field_overlaps all) ≡ shared_in spots
+  unfolding field_overlaps fields_at
+  first-fields spots is = shared-members (register_members all) ∙ ap shared_in is
+
+  pub first-shared : (spots : List Spot) → map (spot_at all) (register_members all) ≡ spots → first_shared all ≡ or_else (option_map Fields (shared_in spots)) (option_map Registers (option_map told_pair (first_pair meets [] spots)))
+  unfolding first_shared
+  first-shared spots is = ap₂ (λ fields registers. or_else (option_map Fields fields) (option_map Registers registers)) (first-fields spots is) (first-overlap all spots is)
+
 -- ---- the pair of two places
 
 pub told-some : (spots : List Spot) (meeting : Meeting) (o : Option Meeting) → o ≡ Some meeting → IsMeeting spots (first_pair meets [] spots) o → option_map told_pair (first_pair meets [] spots) ≡ Some (record { first = told_at spots meeting.first; second = told_at spots meeting.second })
@@ -198,3 +212,26 @@ told-some spots meeting o is found =
 pub told-none : (spots : List Spot) (o : Option Meeting) → o ≡ None → IsMeeting spots (first_pair meets [] spots) o → option_map told_pair (first_pair meets [] spots) ≡ None
 unfolding IsMeeting
 told-none spots o is found = ap (option_map told_pair) (subst (IsMeeting spots (first_pair meets [] spots)) is found)
+
+-- ---- the fields of the next member
+
+pub shared-some : (spot : Spot) (spots : List Spot) (way : List Way) (overlap : Overlap) → way ≡ spot.way → Some overlap ≡ option_map (told_in (plain_way way)) spot.shared → shared_in (spot ∷ spots) ≡ Some overlap
+unfolding shared_in
+shared-some spot spots way overlap same is =
+    ap (λ o. or_else o (shared_in spots)) (ap (λ w. option_map (told_in (plain_way w)) spot.shared) (sym same) ∙ sym is)
+
+pub shared-none : (spot : Spot) (spots : List Spot) (way : List Way) → way ≡ spot.way → None ≡ option_map (told_in (plain_way way)) spot.shared → shared_in (spot ∷ spots) ≡ shared_in spots
+unfolding shared_in
+shared-none spot spots way same is =
+    ap (λ o. or_else o (shared_in spots)) (ap (λ w. option_map (told_in (plain_way w)) spot.shared) (sym same) ∙ sym is)
+
+pub shared-end : shared_in [] ≡ None
+unfolding shared_in
+shared-end = refl
+
+pub shared-fields : (all : List (Row Step Key)) (spots : List Spot) (overlap : Overlap) → first_shared all ≡ or_else (option_map Fields (shared_in spots)) (option_map Registers (option_map told_pair (first_pair meets [] spots))) → shared_in spots ≡ Some overlap → first_shared all ≡ Some (Fields overlap)
+shared-fields all spots overlap all_is is = all_is ∙ ap (λ o. or_else (option_map Fields o) (option_map Registers (option_map told_pair (first_pair meets [] spots)))) is
+
+pub shared-registers : (all : List (Row Step Key)) (spots : List Spot) (o : Option Overlap) → first_shared all ≡ or_else (option_map Fields (shared_in spots)) (option_map Registers (option_map told_pair (first_pair meets [] spots))) → shared_in spots ≡ None → o ≡ option_map told_pair (first_pair meets [] spots) → first_shared all ≡ option_map Registers o
+shared-registers all spots o all_is is found =
+    all_is ∙ ap (λ o. or_else (option_map Fields o) (option_map Registers (option_map told_pair (first_pair meets [] spots)))) is ∙ ap (option_map Registers) (sym found)

@@ -1,6 +1,5 @@
 -- The members that are kept in a block are all with which a member of that block can share a byte.
-use Rattle.std.proofs.Common.{◌≡◌, ℕ, zero, suc, ◌+◌, ◌*◌, ◌/◌, ◌%◌, ◌<◌, ◌≤◌, Bool, true, false, ◌&&◌, ◌||◌, not, nat_eq, nat_lt, cond, List, [], ◌∷◌, ◌++◌, length, map, filter, take, drop, slice_get, Option, Some, None, option_map, refl, sym, ap, ap₂, ◌∙◌, subst, arith, append-nil, append_assoc}
-use Rattle.std.specs.Prelude.{All}
+use Rattle.std.proofs.Common.{◌≡◌, ℕ, zero, suc, ◌+◌, ◌*◌, ◌/◌, ◌%◌, ◌<◌, ◌≤◌, Bool, true, false, ◌&&◌, ◌||◌, not, nat_eq, cond, List, [], ◌∷◌, ◌++◌, length, filter, take, drop, slice_get, Option, Some, None, option_map, refl, sym, ap, ap₂, ◌∙◌, subst, arith, append-nil, append_assoc}
 use Rattle.std.specs.List.{AllByRecursion, find}
 use Rattle.std.specs.Map.{lookup}
 use Rattle.std.proofs.lemmas.Bool.Decides.{nat_tests}
@@ -9,10 +8,10 @@ use Rattle.std.proofs.lemmas.List.Elements.{filter-append}
 use Rattle.std.proofs.lemmas.Option.{slice_get_past}
 use Rattle.pac_base.specs.declared.width.Width.{Width}
 use Rattle.pac_base.specs.declared.width.Width.TheVariants.{W8, W16, W32, W64}
-use Rattle.overlap_sweep.specs.Overlaps.{share_byte}
+use Rattle.overlap_sweep.specs.Fields.{share_one}
 use Rattle.overlap_sweep.specs.Search.{IsEven, Keeps, block_of, first_against, first_pair, is_kept_in, kept_in, numbered_from, or_else, same_slot}
 use Rattle.overlap_sweep.specs.Sought.{IsSought, meets_at, meets_it}
-use Rattle.overlap_sweep.specs.Spots.{may_share, meets, same_peripheral}
+use Rattle.overlap_sweep.specs.Spots.{meets, same_peripheral}
 use Rattle.overlap_sweep.specs.declared.search.Slot.{Slot}
 use Rattle.overlap_sweep.specs.declared.search.Sought.{Sought}
 use Rattle.overlap_sweep.specs.declared.search.Sought.TheVariants.{Met, Free}
@@ -28,10 +27,10 @@ in_block start W16 even = omega (arith, even)
 in_block start W32 even = omega (arith, even)
 in_block start W64 even = omega (arith, even)
 
-from_share : (a v b w : ℕ) → share_byte a v b w ≡ true → (a < b + w) × (b < a + v)
+from_share : (a v b w : ℕ) → share_one a v b w ≡ true → (a < b + w) × (b < a + v)
 from_share a v b w h = (grind (arith, nat_tests, h), grind (arith, nat_tests, h))
 
-same_block : (a b : ℕ) (v w : Width) → a % bytes_of v ≡ 0 → b % bytes_of w ≡ 0 → share_byte a (bytes_of v) b (bytes_of w) ≡ true → a / 8 ≡ b / 8
+same_block : (a b : ℕ) (v w : Width) → a % bytes_of v ≡ 0 → b % bytes_of w ≡ 0 → share_one a (bytes_of v) b (bytes_of w) ≡ true → a / 8 ≡ b / 8
 same_block a b v w even other h =
     let share = from_share a (bytes_of v) b (bytes_of w) h in
     let one : a + bytes_of v ≤ a / 8 * 8 + 8 = in_block a v even in
@@ -54,11 +53,11 @@ met-kept : (n : ℕ) (earlier spot : Spot) → IsEven earlier → IsEven spot �
 unfolding meets IsEven
 met-kept n earlier spot even other h =
     let first = both (same_peripheral earlier.way spot.way) _ h in
-    let second = both (share_byte earlier.start earlier.bytes spot.start spot.bytes) _ first.1 in
+    let second = both (share_one earlier.start earlier.bytes spot.start spot.bytes) _ first.1 in
     let grouped = neither (earlier.grouped || spot.grouped) _ second.1 in
     let alone = one earlier.grouped spot.grouped grouped.0 in
-    let share = subst (λ (v : ℕ). share_byte earlier.start v spot.start spot.bytes ≡ true) even.1 second.0 in
-    let both_share = subst (λ (w : ℕ). share_byte earlier.start (bytes_of even.0) spot.start w ≡ true) other.1 share in
+    let share = subst (λ (v : ℕ). share_one earlier.start v spot.start spot.bytes ≡ true) even.1 second.0 in
+    let both_share = subst (λ (w : ℕ). share_one earlier.start (bytes_of even.0) spot.start w ≡ true) other.1 share in
     let block = same_block earlier.start spot.start even.0 other.0 even.2 other.2 both_share in
     ap₂ (λ b g. b && not g) (equal (earlier.start / 8) (spot.start / 8) block) alone
   where
@@ -141,7 +140,7 @@ numbered-placed before [] = tt
 numbered-placed before (x ∷ xs) = (
   here before,
   subst (λ (all : List Spot). AllByRecursion (λ entry. slice_get all entry.0 ≡ Some entry.1) (numbered_from (length before + 1) xs)) (append_assoc before (x ∷ []) xs)
-  (subst (λ (n : ℕ). AllByRecursion (λ entry. slice_get ((before ++ x ∷ []) ++ xs) entry.0 ≡ Some entry.1) (numbered_from n xs)) (longer before) (numbered-placed (before ++ x ∷ []) xs)),
+      (subst (λ (n : ℕ). AllByRecursion (λ entry. slice_get ((before ++ x ∷ []) ++ xs) entry.0 ≡ Some entry.1) (numbered_from n xs)) (longer before) (numbered-placed (before ++ x ∷ []) xs)),
 )
   where
     here : (ys : List Spot) → slice_get (ys ++ x ∷ xs) (length ys) ≡ Some x

@@ -1,7 +1,8 @@
 -- The walk of a tree: which members it meets among siblings, and at registers and clusters.
-use Rattle.std.proofs.Common.{◌≡◌, ℕ, ◌+◌, ◌*◌, ◌<◌, ◌≤◌, ◌^◌, false, ◌&&◌, cond, List, [], ◌∷◌, ◌++◌, map, Option, Some, None, is_some, unwrap_or, refl, sym, ap, ap₂, ◌∙◌, append-nil}
+use Rattle.std.proofs.Common.{◌≡◌, ℕ, ◌+◌, ◌*◌, false, cond, List, [], ◌∷◌, ◌++◌, map, Option, Some, None, is_some, unwrap_or, refl, sym, ap, ap₂, ◌∙◌, append-nil}
 use Rattle.std.specs.List.{flat_map, range_with_len}
 use Rattle.std.proofs.lemmas.List.Folds.{flat_map-map}
+use Rattle.overlap_sweep.specs.Fields.{shared_fields}
 use Rattle.overlap_sweep.specs.Walk.{member_spots, spot_of, spots_in, spots_of_peripherals, way_inside, peripheral_way}
 use Rattle.overlap_sweep.specs.declared.spot.Way.{Way}
 use Rattle.overlap_sweep.proofs.Stated.{register-alternate, register-group, cluster-alternate}
@@ -23,6 +24,7 @@ use Rattle.svd_model.proofs.Trees.{cluster_tree-is}
 use Rattle.svd_rows.specs.Elements.{Every}
 use Rattle.svd_rows.specs.Forest.{Forest, Tree, leaf, node, siblings}
 use Rattle.svd_rows.specs.Ranks.{stated}
+use Rattle.svd_rows.specs.Rows.{rows}
 
 -- ---- among siblings
 
@@ -57,7 +59,7 @@ unfolding spots_in Every
 no_registers way start outer leaf none = refl
 no_registers way start outer (node s ks c n) none =
     ap₂ (λ here others. here ++ others) (nothing _ (λ index.
-    ap₂ (λ b r. cond b (spot_of (way_inside way s ks index) s.name (start + start_of ks index) (props_inside ks outer) ks ∷ []) [] ++ r) none.0
+    ap₂ (λ b r. cond b (spot_of (way_inside way s ks index) s.name (start + start_of ks index) (props_inside ks outer) ks (rows (record { keys = ks; below = c })) ∷ []) [] ++ r) none.0
     (no_registers (way_inside way s ks index) (start + start_of ks index) (props_inside ks outer) c none.1)) (indexes_of (value_of stated_dim ks))) (no_registers way start outer n none.2)
   where
     nothing : {X Y : Type 0} (f : X → List Y) → ((x : X) → f x ≡ []) → (xs : List X) → flat_map f xs ≡ []
@@ -67,7 +69,7 @@ no_registers way start outer (node s ks c n) none =
 -- ---- a register
 
 module _ (outer : Props) (key : Sibling) (r : Register) where
-  pub spots-register : (way : List Way) (start : ℕ) (index : Option ℕ) → member_spots way start outer (register_under key r) index ≡ record { way = way ++ record { name = key.name; number = key.number; index = index; alternate = false } ∷ []; name = key.name; start = start + (r.offset + unwrap_or index 0 * unwrap_or r.dim.step 0); bytes = bytes_of (width_of (size_at (holding (r.props ∷ outer ∷ [])))); alternate = r.alternate; grouped = is_some r.group } ∷ []
+  pub spots-register : (way : List Way) (start : ℕ) (index : Option ℕ) → member_spots way start outer (register_under key r) index ≡ record { way = way ++ record { name = key.name; number = key.number; index = index; alternate = false } ∷ []; name = key.name; start = start + (r.offset + unwrap_or index 0 * unwrap_or r.dim.step 0); bytes = bytes_of (width_of (size_at (holding (r.props ∷ outer ∷ [])))); alternate = r.alternate; grouped = is_some r.group; shared = shared_fields (holding (r.props ∷ outer ∷ [])) (rows (register_tree r)) } ∷ []
   unfolding spot_of
   spots-register way start index =
       ap₂ (λ spot others. spot ∷ others)
@@ -78,6 +80,7 @@ module _ (outer : Props) (key : Sibling) (r : Register) where
         bytes = bytes_of (width_of (size_at (inside-register outer key r i)));
         alternate = register-alternate r i;
         grouped = is_some (register-group r i);
+        shared = shared_fields (inside-register outer key r i) (rows (register_tree r));
       })
       (no_registers (way_inside way (step_of register key) (stated (register_places r)) index) (start + start_of (stated (register_places r)) index) (props_inside (stated (register_places r)) outer) (register_tree r).below (fields-plain r.fields.entries))
 

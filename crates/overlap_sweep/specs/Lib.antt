@@ -1,3 +1,5 @@
+pub mod Fields
+pub mod Kept
 pub mod Overlaps
 pub mod Spots
 pub mod Walk

@@ -1,15 +1,12 @@
 -- The first pair that the search finds among members of registers. That it is the first of all pairs is proved.
-use Rattle.std.specs.Prelude.{◌≡◌, ℕ, ◌+◌, ◌/◌, ◌%◌, Bool, false, ◌&&◌, not, nat_eq, cond, List, [], ◌∷◌, ◌++◌, map, filter, take, Option, None, Some, option_map, slice_get}
+use Rattle.std.specs.Prelude.{◌≡◌, ℕ, ◌+◌, ◌/◌, ◌%◌, Bool, ◌&&◌, not, nat_eq, List, [], ◌∷◌, ◌++◌, filter, Option, None, option_map, slice_get}
 use Rattle.std.specs.List.{find}
 use Rattle.std.specs.Map.{lookup}
+pub use Rattle.overlap_sweep.specs.Overlaps.{or_else}
 use Rattle.overlap_sweep.specs.declared.spot.Spot.{Spot}
 use Rattle.overlap_sweep.specs.declared.search.Slot.{Slot}
 use Rattle.pac_base.specs.declared.width.Width.{Width}
 use Rattle.svd_model.specs.Checking.{bytes_of}
-
-abbrev pub or_else : {A : Type 0} → Option A → Option A → Option A
-or_else None other = other
-or_else (Some x) other = Some x
 
 -- the first that passes the test against this one
 abbrev pub first_against : {A : Type 0} → (A → A → Bool) → A → List A → Option A

@@ -1,11 +1,12 @@
 -- What is kept of a member of a register, and when two of them meet. That they meet where they overlap is proved.
-use Rattle.std.specs.Prelude.{ℕ, Bool, true, false, ◌&&◌, ◌||◌, not, nat_eq, cond, List, [], ◌∷◌, ◌++◌, map, filter, Option, None, Some, option_map, is_some}
-use Rattle.std.specs.List.{list_any, find}
+use Rattle.std.specs.Prelude.{Bool, false, ◌&&◌, ◌||◌, not, nat_eq, cond, List, [], ◌∷◌, map}
+use Rattle.std.specs.List.{list_any}
 use Rattle.std.specs.Str.{bytes_eq}
 use Rattle.pac_base.specs.declared.path.Step.{Step as Written}
 use Rattle.overlap_sweep.specs.declared.spot.Spot.{Spot}
 use Rattle.overlap_sweep.specs.declared.spot.Way.{Way}
-use Rattle.overlap_sweep.specs.Overlaps.{share_byte, is_the_name}
+use Rattle.overlap_sweep.specs.Fields.{share_one}
+use Rattle.overlap_sweep.specs.Overlaps.{is_the_name}
 
 -- the two steps lead to one element of their parent
 unfoldable pub same_element : Way → Way → Bool
@@ -34,7 +35,7 @@ may_share one other =
 -- two members share a byte and may not
 unfoldable pub meets : Spot → Spot → Bool
 meets one other =
-    same_peripheral one.way other.way && (share_byte one.start one.bytes other.start other.bytes && not (may_share one other))
+    same_peripheral one.way other.way && (share_one one.start one.bytes other.start other.bytes && not (may_share one other))
 
 -- the way as it is told
 abbrev pub told_way : List Way → List Written

@@ -1,6 +1,7 @@
 -- The members of registers below siblings, by a walk of the tree. That these are the members of the flat rows is proved.
 use Rattle.std.specs.Prelude.{ℕ, ◌+◌, ◌&&◌, cond, List, [], ◌∷◌, ◌++◌, Option, None, is_some}
 use Rattle.std.specs.List.{flat_map}
+use Rattle.overlap_sweep.specs.Fields.{shared_fields}
 use Rattle.overlap_sweep.specs.Overlaps.{stated_alternate, stated_group}
 use Rattle.overlap_sweep.specs.declared.spot.Spot.{Spot}
 use Rattle.overlap_sweep.specs.declared.spot.Way.{Way}
@@ -12,6 +13,7 @@ use Rattle.svd_model.specs.Properties.{size_at}
 use Rattle.svd_model.specs.Stating.{value_of, stated_dim, indexes_of, is_of, start_of}
 use Rattle.svd_model.specs.Steps.{Step, cluster, register}
 use Rattle.svd_rows.specs.Forest.{Forest, Tree, leaf, node}
+use Rattle.svd_rows.specs.Rows.{Row, rows}
 
 -- the step into a member of an element
 abbrev pub way_step : Step → List Key → Option ℕ → Way
@@ -26,15 +28,17 @@ way_step step keys index = record {
 abbrev pub way_inside : List Way → Step → List Key → Option ℕ → List Way
 way_inside way step keys index = way ++ way_step step keys index ∷ []
 
--- a member of a register: its way, name and address, and what holds and is stated there
-unfoldable pub spot_of : List Way → List ℕ → ℕ → Props → List Key → Spot
-spot_of way name start props keys = record {
+-- a member of a register: its way, name and address, what holds and is stated there, and its
+-- rows, seen from itself
+unfoldable pub spot_of : List Way → List ℕ → ℕ → Props → List Key → List (Row Step Key) → Spot
+spot_of way name start props keys own = record {
   way = way;
   name = name;
   start = start;
   bytes = bytes_of (width_of (size_at props));
   alternate = value_of stated_alternate keys;
   grouped = is_some (value_of stated_group keys);
+  shared = shared_fields props own;
 }
 
 -- the members of registers among siblings and below them, whose parent has this way, starts here, and in which these
@@ -43,14 +47,14 @@ unfoldable pub spots_in : List Way → ℕ → Props → Forest Step Key → Lis
 spots_in way start outer leaf = []
 spots_in way start outer (node step keys children siblings) =
     flat_map (λ index.
-    cond (is_of register step) (spot_of (way_inside way step keys index) step.name (start + start_of keys index) (props_inside keys outer) keys ∷ []) []
+    cond (is_of register step) (spot_of (way_inside way step keys index) step.name (start + start_of keys index) (props_inside keys outer) keys (rows (record { keys = keys; below = children })) ∷ []) []
     ++ spots_in (way_inside way step keys index) (start + start_of keys index) (props_inside keys outer) children) (indexes_of (value_of stated_dim keys))
     ++ spots_in way start outer siblings
 
 -- those of one member of an element: its own, where it is a register, and those of the registers below it
 abbrev pub member_spots : List Way → ℕ → Props → (Step × Tree Step Key) → Option ℕ → List Spot
 member_spots way start outer element index =
-    cond (is_of register element.0) (spot_of (way_inside way element.0 element.1.keys index) element.0.name (start + start_of element.1.keys index) (props_inside element.1.keys outer) element.1.keys ∷ []) []
+    cond (is_of register element.0) (spot_of (way_inside way element.0 element.1.keys index) element.0.name (start + start_of element.1.keys index) (props_inside element.1.keys outer) element.1.keys (rows (record { keys = element.1.keys; below = element.1.below })) ∷ []) []
     ++ spots_in (way_inside way element.0 element.1.keys index) (start + start_of element.1.keys index) (props_inside element.1.keys outer) element.1.below
 
 -- the way to a peripheral

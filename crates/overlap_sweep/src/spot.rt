@@ -1,7 +1,9 @@
 ghost use Rattle.std.specs.Prelude.{◌≡◌, ◌+◌, ◌<◌, ◌≤◌, ◌^◌, ◌&&◌, false};
-ghost use Rattle.overlap_sweep.specs.Overlaps.{share_byte, is_the_name};
+ghost use Rattle.overlap_sweep.specs.Overlaps.{is_the_name};
+ghost use Rattle.overlap_sweep.specs.Fields.{share_one};
 ghost use Rattle.overlap_sweep.specs.Spots.{may_share, meets, parts, same_element, same_peripheral, some_alternate};
 
+use crate::field::FieldPair;
 use pac_base::{Name, Seq};
 
 /// One step on the way to a member of a register.
@@ -32,6 +34,8 @@ pub struct Spot {
     pub alternate: Option<Name>,
     /// Whether it states `alternateGroup`.
     pub grouped: bool,
+    /// The first two members of its fields that share a bit and may not.
+    pub shared: Option<FieldPair>,
 }
 
 impl Way {
@@ -102,14 +106,15 @@ impl Spot {
         ensures { result ≡ may_share self.now other.now }
     {
         (self.grouped || other.grouped)
-            || ((is_the_name(&self.alternate, &other.name) || is_the_name(&other.alternate, &self.name))
+            || ((is_the_name(&self.alternate, &other.name)
+                || is_the_name(&other.alternate, &self.name))
                 || (parts(self.way.as_slice(), other.way.as_slice())
                     || parts(other.way.as_slice(), self.way.as_slice())))
     }
 
     /// Whether both share a byte.
     fn shares_byte(&self, other: &Spot) -> bool
-        ensures { result ≡ share_byte self.now.start self.now.bytes other.now.start other.now.bytes }
+        ensures { result ≡ share_one self.now.start self.now.bytes other.now.start other.now.bytes }
     {
         (self.start as u128) < other.start as u128 + other.bytes as u128
             && (other.start as u128) < self.start as u128 + self.bytes as u128

@@ -9,6 +9,7 @@ ghost use Rattle.svd_model.specs.Trees.{device_tree, item_under, peripheral_unde
 ghost use Rattle.svd_model.specs.Unbuilt.{cluster_under, register_under};
 ghost use Rattle.svd_rows.specs.Forest.{siblings};
 
+use crate::field::shared_fields;
 use crate::spot::{Spot, Way};
 use pac_base::{Name, NoMemory, Seq};
 use std::alloc::Global;
@@ -127,7 +128,7 @@ fn count_of(item: &Item) -> Option<u64>
 }
 
 /// The index of the member of this number: only an array's members have one.
-fn index_at(count: Option<u64>, number: u64) -> Option<u64>
+pub(crate) fn index_at(count: Option<u64>, number: u64) -> Option<u64>
     ensures { result ≡ index_at count number }
 {
     match count {
@@ -180,6 +181,7 @@ fn push_register(
         bytes: bytes_in(register.props.within(&outer.props)),
         alternate: copied(alloc, &register.alternate)?,
         grouped: register.group.is_some(),
+        shared: shared_fields(alloc, register, &outer.props)?,
     })
 }
 

@@ -1,10 +1,9 @@
 -- The next member is met by one before it, or is kept.
-use Rattle.std.proofs.Common.{◌≡◌, length, [], refl, sym, ap, subst, ◌∙◌}
-use Rattle.std.specs.Prelude.{List, ℕ, slice_get, take}
+use Rattle.std.proofs.Common.{length, [], refl, sym, ap, subst, ◌∙◌}
+use Rattle.std.specs.Prelude.{take}
 use Rattle.std.proofs.lemmas.Option.{slice_get_read, slice_get_past}
-use Rattle.overlap_sweep.specs.declared.search.Slot.{Slot}
 use Rattle.overlap_sweep.specs.Search.{Keeps, first_pair}
-use Rattle.overlap_sweep.specs.Sought.{IsMeeting, IsSought}
+use Rattle.overlap_sweep.specs.Sought.{IsMeeting}
 use Rattle.overlap_sweep.specs.Spots.{meets}
 use Rattle.overlap_sweep.proofs.Searching.{drop-beyond, keeps-nothing, pair-none, pair-some, pair-end, met_parts, free_parts}
 use Rattle.overlap_sweep.proofs.search.first_meeting.Goals as goal

@@ -1,7 +1,7 @@
 -- The member of a rank is met, or those of the next ranks are sought.
-use Rattle.std.proofs.Common.{sym, ◌∙◌, ◌/◌, option_map, arith}
-use Rattle.std.specs.Prelude.{ℕ, slice_get, take}
-use Rattle.overlap_sweep.specs.Search.{Keeps, block_of, kept_in}
+use Rattle.std.proofs.Common.{sym, ◌∙◌, arith}
+use Rattle.std.specs.Prelude.{take}
+use Rattle.overlap_sweep.specs.Search.{block_of}
 use Rattle.overlap_sweep.proofs.Searching.{found_at, none_at, sought-met, sought-on, sought-free, sought-end}
 use Rattle.overlap_sweep.proofs.search.seek.Goals as goal
 
@@ -20,8 +20,8 @@ returns-in-None c =
 pub loop-rank-preserved : goal.loop-rank-preserved
 loop-rank-preserved c =
     let on = sought-on c.args.spots.now c.args.place c.args.spot.now c.requires.even c.requires.place c.loop-rank.rank c.loop-rank.invariant.left c.in-Some.earlier.now
-        (found_at (take c.args.place c.args.spots.now) c.args.seen.now.entries c.requires.keeps (block_of c.args.spot.now) c.loop-rank.rank c.in-Some.earlier.now c.in-Some.ensures.value)
-        (sym c.meets_at.ensures ∙ c.if-meets_at.false) in
+    (found_at (take c.args.place c.args.spots.now) c.args.seen.now.entries c.requires.keeps (block_of c.args.spot.now) c.loop-rank.rank c.in-Some.earlier.now c.in-Some.ensures.value)
+    (sym c.meets_at.ensures ∙ c.if-meets_at.false) in
     record { left = on.0; within = on.1 }
 
 pub returns : goal.returns
