@@ -85,11 +85,7 @@ fn place_fault(alloc: Global, device: &Device) -> Result<Option<CheckFault>, NoM
 
 /// The first overlap, where overlaps are asked for.
 #[tactic(auto, unfolding(crate::specs::Ruled::overlap_in))]
-fn overlap(
-    alloc: Global,
-    policy: Policy,
-    device: &Device,
-) -> Result<Option<CheckFault>, NoMemory>
+fn overlap(alloc: Global, policy: Policy, device: &Device) -> Result<Option<CheckFault>, NoMemory>
     requires unfolded { IsUnfolded device.now }
     requires placed { place_fault_in device.now ≡ None }
     ensures { IfOk result (λ found. found ≡ overlap_in policy device.now) }

@@ -253,12 +253,7 @@ fn push_svd(page: &mut Page, fault: &SvdFault) -> Result<(), NoMemory>
 // ---- the whole
 
 /// Appends what is wrong with two elements.
-fn push_both(
-    page: &mut Page,
-    first: &[Step],
-    second: &[Step],
-    said: &[u8],
-) -> Result<(), NoMemory>
+fn push_both(page: &mut Page, first: &[Step], second: &[Step], said: &[u8]) -> Result<(), NoMemory>
     ensures { OnOk result (page.new ≡ page.old ++ both_paths first.now second.now said.now) }
 {
     push_path(page, first)?;
