@@ -5,3 +5,4 @@ pub mod Spots
 pub mod Walk
 pub mod Search
 pub mod Sought
+pub mod Worked
