@@ -41,7 +41,7 @@ elsewhere (step ∷ one) (next ∷ other) (first ∷ path) forth back here = cas
         more (behind step next (leads one other) same forth) (behind next step (leads other one) (sym same) back) on
 
 -- rows of one parent are none of the other
-below : (path : List Step) (rest : List Step) → leads path (path ++ rest) ≡ true
+pub below : (path : List Step) (rest : List Step) → leads path (path ++ rest) ≡ true
 unfolding begins
 below [] rest = refl
 below (step ∷ path) rest = ap (λ (b : Bool). b && leads path (path ++ rest)) (same_step-tells.itself step) ∙ below path rest
