@@ -1,5 +1,5 @@
 -- A crate text comes to one crate or one refusal at most, and a script to one list of statements or one refusal.
-use Rattle.std.proofs.Common.{ℕ, ◌≡◌, ◌≤◌, ◌<◌, ◌+◌, Bool, true, false, List, [], ◌∷◌, ◌++◌, length, Option, Some, None, refl, sym, ap, ◌∙◌, subst, arith}
+use Rattle.std.proofs.Common.{ℕ, suc, ◌≡◌, ◌≤◌, ◌<◌, ◌+◌, Bool, true, false, List, [], ◌∷◌, ◌++◌, length, Option, Some, None, refl, sym, ap, ◌∙◌, subst, arith}
 use Rattle.frag_parse.specs.Nesting.{crate_within}
 use Rattle.frag_parse.specs.Parsing.{DeepCrate, IsCrateOf}
 use Rattle.frag_script.proofs.ScriptAgain.{one_script}
@@ -62,7 +62,7 @@ one_crate_reading bytes (typed krate) (typed other) a b = ap typed (same_crate b
 -- each line of a script is good
 all_good : (number : ℕ) (lines : List (List ℕ)) (script : List ScriptLine) → SpellsLines number lines script → AllGood lines
 all_good number [] script h = tt
-all_good number (line ∷ lines) script h = ((h.0, h.1), all_good (number + 1) lines h.2.0 h.2.1)
+all_good number (line ∷ lines) script h = ((h.0, h.1), all_good (number + 1) lines h.2 h.3)
 
 good_at : (before after : List (List ℕ)) (line : List ℕ) → AllGood (before ++ line ∷ after) → IsGood line
 good_at [] after line h = h.0
@@ -74,12 +74,12 @@ not_bad bytes line script bad h = bad.is_bad (good_at bad.before bad.after bad.b
 -- two first bad lines stand behind as many
 same_place : (before other : List (List ℕ)) (bad worse : List ℕ) (after later : List (List ℕ)) → before ++ bad ∷ after ≡ other ++ worse ∷ later
     → AllGood before → AllGood other → ¬ (IsGood bad) → ¬ (IsGood worse) → length before ≡ length other
-same_place [] [] bad worse after later e good fine no none = refl
-same_place [] (first ∷ other) bad worse after later e good fine no none = let is : first ≡ bad = cc e in absurd (no (subst IsGood is fine.0))
-same_place (first ∷ before) [] bad worse after later e good fine no none = let is : first ≡ worse = cc e in absurd (none (subst IsGood is good.0))
-same_place (first ∷ before) (second ∷ other) bad worse after later e good fine no none =
+same_place [] [] bad worse after later e good fine never none = refl
+same_place [] (first ∷ other) bad worse after later e good fine never none = let is : first ≡ bad = cc e in absurd (never (subst IsGood is fine.0))
+same_place (first ∷ before) [] bad worse after later e good fine never none = let is : first ≡ worse = cc e in absurd (none (subst IsGood is good.0))
+same_place (first ∷ before) (second ∷ other) bad worse after later e good fine never none =
     let rest : before ++ bad ∷ after ≡ other ++ worse ∷ later = cc e in
-    ap (λ n. n + 1) (same_place before other bad worse after later rest good.1 fine.1 no none)
+    ap suc (same_place before other bad worse after later rest good.1 fine.1 never none)
 
 one_bad : (lines : List (List ℕ)) (one other : ℕ) → IsFirstBad one lines → IsFirstBad other lines → one ≡ other
 one_bad lines one other a b =

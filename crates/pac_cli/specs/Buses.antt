@@ -1,5 +1,5 @@
 -- The buses that are lent for a call, and which of them a command runs its script over. This project's own rule.
-use Rattle.std.specs.Prelude.{ℕ, ◌≡◌, Bool, true, false, List, length, map, nat_lt, Option, Some, None, option_and_then, option_map, slice_get, slice_set, if◌then◌else◌}
+use Rattle.std.specs.Prelude.{ℕ, ◌≡◌, ◌⊎◌, Bool, true, false, List, length, map, nat_lt, Option, Some, None, option_and_then, option_map, slice_get, slice_set, if◌then◌else◌}
 use Rattle.std.specs.List.{position_or_len}
 use Rattle.pac_bus.specs.Telling.{BusTold}
 use Rattle.pac_cli.specs.declared.slot.BusSlot.{BusSlot}
@@ -57,12 +57,12 @@ told_by kind slots = option_map (λ slot. slot.told) (slice_get slots (place_in 
 abbrev pub lent_for : Option BusKind → List Slot → Option BusTold
 lent_for wanted slots = option_and_then (λ kind. told_by kind slots) wanted
 
--- the lent buses stay, but for what the first of this kind tells
+-- what the first lent bus of this kind tells changes, and nothing else of the lent buses
 pub record OneChanges (kind : BusKind) (old new : List Slot) : Type 0 where
   pub told : BusTold
   pub changed : new ≡ slice_set old (place_in kind (kinds_of old)) (record { kind = kind; told = told })
 
--- all lent buses stay but the one that is wanted
+-- no lent bus changes, but the one that is wanted may
 abbrev pub OthersStay : Option BusKind → List Slot → List Slot → Type 0
 OthersStay None old new = new ≡ old
-OthersStay (Some kind) old new = OneChanges kind old new
+OthersStay (Some kind) old new = (new ≡ old) ⊎ OneChanges kind old new

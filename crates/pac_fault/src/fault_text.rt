@@ -35,7 +35,7 @@ fn push_text(page: &mut Page, fault: &PacFault) -> Result<(), NoMemory>
         PacFault::Words(fault) => push_words(page, fault),
         PacFault::Read { name } => push_pair(page, b"cannot read ", name.as_str().as_bytes()),
         PacFault::Write => page.push(b"cannot write"),
-        PacFault::Bus { done } => push_done(page, *done),
+        PacFault::Bus { done } => push_between(page, b"the bus failed after ", *done, b" events"),
         PacFault::Svd(fault) => push_svd(page, fault),
         PacFault::Unbuilt { path } => push_at(page, path.as_slice(), b": not built yet"),
         PacFault::Dim(fault) => push_dim(page, fault),
@@ -53,13 +53,13 @@ fn push_pair(page: &mut Page, first: &[u8], second: &[u8]) -> Result<(), NoMemor
     page.push(second)
 }
 
-/// Appends after how many events the bus failed.
-fn push_done(page: &mut Page, done: u64) -> Result<(), NoMemory>
-    ensures { OnOk result (page.new ≡ page.old ++ (codes "the bus failed after " ++ (decimal done ++ codes " events"))) }
+/// Appends a number between two texts.
+fn push_between(page: &mut Page, first: &[u8], number: u64, second: &[u8]) -> Result<(), NoMemory>
+    ensures { OnOk result (page.new ≡ page.old ++ (first.now ++ (decimal number ++ second.now))) }
 {
-    page.push(b"the bus failed after ")?;
-    page.decimal(done)?;
-    page.push(b" events")
+    page.push(first)?;
+    page.decimal(number)?;
+    page.push(second)
 }
 
 #[tactic(auto, unfolding(crate::specs::FaultTexts::kind_text))]

@@ -61,13 +61,26 @@ fn script_typing_text(kind: ScriptTyping) -> &'static [u8]
     }
 }
 
+/// Appends a text, a number, and two texts behind it.
+fn push_numbered(
+    page: &mut Page,
+    before: &[u8],
+    number: u64,
+    behind: &[u8],
+    said: &[u8],
+) -> Result<(), NoMemory>
+    ensures { OnOk result (page.new ≡ page.old ++ (before.now ++ (decimal number ++ (behind.now ++ said.now)))) }
+{
+    push_counted(page, before, number)?;
+    page.push(behind)?;
+    page.push(said)
+}
+
 /// Appends a line of a script, and what is wrong on it.
 fn push_on_line(page: &mut Page, line: u32, said: &[u8]) -> Result<(), NoMemory>
     ensures { OnOk result (page.new ≡ page.old ++ on_line line said.now) }
 {
-    push_counted(page, b"script line ", u64::from(line))?;
-    page.push(b": ")?;
-    page.push(said)
+    push_numbered(page, b"script line ", u64::from(line), b": ", said)
 }
 
 /// Appends how many statements a script has.
