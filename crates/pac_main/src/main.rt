@@ -22,7 +22,24 @@ fn main(rt: HostRuntime) -> ExitCode {
         Ok(words) => words,
         Err(status) => return ExitCode::from(status),
     };
-    let Ok(mut buses) = buses(rt.alloc()) else {
+    let alloc = rt.alloc();
+    let (Ok(zeros), Ok(memory)) = (
+        Box::new(alloc, ZeroBus::new(alloc)),
+        Box::new(alloc, MemBus::new(alloc)),
+    ) else {
+        return ExitCode::from(NO_MEMORY);
+    };
+    let slots = [
+        BusSlot {
+            kind: BusKind::Zero,
+            bus: AnyBus { bus: zeros },
+        },
+        BusSlot {
+            kind: BusKind::Memory,
+            bus: AnyBus { bus: memory },
+        },
+    ];
+    let Ok(mut buses) = Vec::from_array(alloc, slots) else {
         return ExitCode::from(NO_MEMORY);
     };
     let mut files = StdFiles::new(&rt);
