@@ -1,0 +1,6 @@
+mod Commuting
+mod Copied
+mod Deleting
+mod Exchanges
+mod Outcomes
+mod Renamed
