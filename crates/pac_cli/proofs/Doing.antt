@@ -101,24 +101,24 @@ module _ (one other : Answer → Type 0) (goes : (answer : Answer) → one answe
 -- ---- commands over a description
 
 -- the files of a description come to no rows
-refused_by : (class : Class) (made : Resolution → Answer) (source : SourceBytes) (now : Desk) (fault : PacFault) → ((why : Unresolved) → made (stopped why) ≡ refused (unresolved why))
-    → ResolvesNot class source fault → DoesNot class (AnswersSource made source) now now fault
-refused_by no_memory made source now fault stops h = record { told_as = h; count = refl; output = inl (nothing_done now) }
-refused_by bad_words made source now fault stops h = absurd h
-refused_by (bad_read name) made source now fault stops h = absurd h
-refused_by bad_write made source now fault stops h = absurd h
-refused_by (bad_bus done) made source now fault stops h = absurd h
-refused_by (long_file name limit) made source now fault stops h = absurd h
-refused_by bad_input made source now fault stops h = record {
-  nothing = nothing_done now;
-  cause = unresolved h.0;
-  decided = record { resolution = stopped h.0; comes = h.1; answered = sym (stops h.0) };
-  shown = h.2;
-}
+refused_by : (class : Class) (decides : Answer → Type 0) (source : SourceBytes) (now : Desk) (fault : PacFault) → ((why : Unresolved) → ComeTo source (stopped why) → decides (refused (unresolved why)))
+    → ResolvesNot class source fault → DoesNot class decides now now fault
+refused_by no_memory decides source now fault stops h = record { told_as = h; count = refl; output = inl (nothing_done now) }
+refused_by bad_words decides source now fault stops h = absurd h
+refused_by (bad_read name) decides source now fault stops h = absurd h
+refused_by bad_write decides source now fault stops h = absurd h
+refused_by (bad_bus done) decides source now fault stops h = absurd h
+refused_by (long_file name limit) decides source now fault stops h = absurd h
+refused_by bad_input decides source now fault stops h = record { nothing = nothing_done now; cause = unresolved h.0; decided = stops h.0 h.1; shown = h.2 }
+
+pub stopped_by : (decides : Answer → Type 0) (source : SourceBytes) (now : Desk) (fault : PacFault) → ((why : Unresolved) → ComeTo source (stopped why) → decides (refused (unresolved why)))
+    → ResolvesNot (class_of fault) source fault → DoesNot (class_of fault) decides now now fault
+stopped_by decides source now fault stops h = refused_by (class_of fault) decides source now fault stops h
 
 pub not_resolved : (made : Resolution → Answer) (source : SourceBytes) (now : Desk) (fault : PacFault) → ((why : Unresolved) → made (stopped why) ≡ refused (unresolved why))
     → ResolvesNot (class_of fault) source fault → DoesNot (class_of fault) (AnswersSource made source) now now fault
-not_resolved made source now fault stops h = refused_by (class_of fault) made source now fault stops h
+not_resolved made source now fault stops h =
+    stopped_by (AnswersSource made source) source now fault (λ why comes. record { resolution = stopped why; comes = comes; answered = sym (stops why) }) h
 
 -- a listing
 

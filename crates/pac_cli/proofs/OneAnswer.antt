@@ -3,7 +3,7 @@ use Rattle.std.proofs.Common.{ℕ, ◌≡◌, ◌⊎◌, List, [], ◌∷◌, Op
 use Rattle.svd_reader.specs.Described.{Answer as Reading, HasAnswer}
 use Rattle.pac_words.specs.Commands.{command_of}
 use Rattle.pac_words.specs.declared.command.Command.{Command}
-use Rattle.pac_words.specs.declared.command.Command.TheVariants.{Executing, Generating, Listing}
+use Rattle.pac_words.specs.declared.command.Command.TheVariants.{Executing, Generating, Listing, Running}
 use Rattle.pac_words.specs.declared.command.BusKind.{BusKind}
 use Rattle.pac_fault.specs.Classes.{Class, no_memory, bad_words, bad_read, bad_write, bad_bus, long_file, bad_input, class_of}
 use Rattle.pac_fault.specs.declared.fault.PacFault.{PacFault}
@@ -15,13 +15,14 @@ use Rattle.frag_sem.specs.TextSurface.{text_surface}
 use Rattle.frag_tree.specs.declared.event.Event.{Event}
 use Rattle.frag_tree.specs.declared.script.Script.{Script}
 use Rattle.pac_bus.specs.Acts.{Act}
-use Rattle.pac_cli.specs.Answers.{Cause, Plan, Answer, refused, does, generated, listed, no_crate_text, scripted, text_plan, AnswersOnCrate, AnswersScript, AnswersText, Decides, DecidesOn, DecidesSource, DecidesText, AnswersAsked, AnswersCommand, AnswersWithout, IsAnswer}
+use Rattle.pac_cli.specs.Answers.{Cause, Plan, Answer, refused, does, generated, listed, no_crate_text, scripted, table_plan, text_plan, AnswersOnCrate, AnswersOnRows, AnswersScript, AnswersText, Decides, DecidesOn, DecidesRun, DecidesSource, DecidesText, AnswersAsked, AnswersCommand, AnswersWithout, IsAnswer}
 use Rattle.pac_cli.specs.Buses.{bus_of, kinds_of, missing_kind}
 use Rattle.pac_cli.specs.Scripts.{CrateReading, untyped, typed}
 use Rattle.pac_inputs.specs.Gathering.{FileMap, Gathering, inputs_are, is_too_long, Gathered, gathered_from}
 use Rattle.pac_inputs.specs.declared.gathering.Wanted.{Wanted}
 use Rattle.pac_cli.specs.Inputs.{files_of}
-use Rattle.pac_cli.specs.Resolving.{Resolution, SourceBytes, ComeTo, resolution_of}
+use Rattle.pac_cli.specs.Resolving.{Resolution, stopped, resolved, SourceBytes, ComeTo, resolution_of}
+use Rattle.table_sem.specs.TableSurface.{table_surface}
 use Rattle.pac_cli.specs.Showing.{Shows}
 use Rattle.pac_cli.specs.Stages.{BrokeOn, MakesFirst}
 use Rattle.pac_cli.specs.Standing.{StandsIn, Stands, Refuses, Comes, IsSpared, IsComplete, RoseOn}
@@ -56,11 +57,24 @@ one_for_text (krate ∷ script ∷ []) one other a b =
     (subst (λ (reading : CrateReading). AnswersOnCrate reading script one) (one_crate_reading krate a.reading b.reading a.comes b.comes) a.answered) b.answered
 one_for_text (krate ∷ script ∷ next ∷ inputs) one other a b = absurd a
 
+one_on_rows : (resolution : Resolution) (script : List ℕ) (one other : Answer) → AnswersOnRows resolution script one → AnswersOnRows resolution script other → one ≡ other
+one_on_rows (stopped why) script one other a b = a ∙ sym b
+one_on_rows (resolved rows) script one other a b = one_for_script (table_surface rows) (table_plan rows) script one other a b
+
+one_for_run : OneReading → (inputs : List (List ℕ)) (one other : Answer) → DecidesRun inputs one → DecidesRun inputs other → one ≡ other
+one_for_run read [] one other a b = absurd a
+one_for_run read (svd ∷ []) one other a b = absurd a
+one_for_run read (svd ∷ script ∷ []) one other a b =
+    one_on_rows b.resolution script one other
+    (subst (λ (resolution : Resolution). AnswersOnRows resolution script one) (same_resolution read (record { svd = svd }) a.resolution b.resolution a.comes b.comes) a.answered) b.answered
+one_for_run read (svd ∷ script ∷ next ∷ inputs) one other a b = absurd a
+
 -- a command and its inputs decide one answer at most
 pub one_decision_lem : OneReading → (command : Command) (inputs : List (List ℕ)) (one other : Answer) → Decides command inputs one → Decides command inputs other → one ≡ other
 one_decision_lem read (Listing source) inputs one other a b = one_for_source read listed inputs one other a b
 one_decision_lem read (Generating source) inputs one other a b = one_for_source read generated inputs one other a b
 one_decision_lem read (Executing krate run) inputs one other a b = one_for_text inputs one other a b
+one_decision_lem read (Running source run) inputs one other a b = one_for_run read inputs one other a b
 
 one_on : OneReading → (command : Command) (gathering : Gathering) (one other : Answer) → DecidesOn command gathering one → DecidesOn command gathering other → one ≡ other
 one_on read command (inputs_are inputs) one other a b = one_decision_lem read command inputs one other a b

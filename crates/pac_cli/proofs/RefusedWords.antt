@@ -1,17 +1,18 @@
 -- No command with inputs is refused for its words.
 use Rattle.std.proofs.Common.{ℕ, ◌≡◌, List, [], ◌∷◌, Option, Some, None, refl}
-use Rattle.pac_cli.specs.Answers.{Answer, AnswersAsked, AnswersOnCrate, AnswersScript, AnswersWithout, Decides, DecidesOn, DecidesSource, DecidesText, IsAnswer, Plan, generated, listed, no_command, refused, scripted, text_plan, unless_mistyped}
+use Rattle.pac_cli.specs.Answers.{Answer, AnswersAsked, AnswersOnCrate, AnswersOnRows, AnswersScript, AnswersWithout, Decides, DecidesOn, DecidesRun, DecidesSource, DecidesText, IsAnswer, Plan, generated, listed, no_command, refused, scripted, table_plan, text_plan, unless_mistyped}
 use Rattle.pac_cli.specs.Buses.{bus_of, missing_kind}
 use Rattle.frag_sem.specs.ScriptTyping.{LineFault, script_fault}
 use Rattle.frag_sem.specs.Surfaces.{Surface}
 use Rattle.frag_sem.specs.TextSurface.{text_surface}
+use Rattle.table_sem.specs.TableSurface.{table_surface}
 use Rattle.frag_tree.specs.declared.script.Script.{Script}
 use Rattle.pac_cli.specs.Resolving.{Resolution, stopped, resolved}
 use Rattle.pac_cli.specs.Scripts.{CrateReading, untyped, typed, ScriptReading, unread, spelled}
 use Rattle.pac_inputs.specs.Gathering.{FileMap, Gathering, inputs_are, is_too_long}
 use Rattle.pac_words.specs.Commands.{command_of}
 use Rattle.pac_words.specs.declared.command.Command.{Command}
-use Rattle.pac_words.specs.declared.command.Command.TheVariants.{Executing, Generating, Listing}
+use Rattle.pac_words.specs.declared.command.Command.TheVariants.{Executing, Generating, Listing, Running}
 use Rattle.pac_words.specs.declared.command.BusKind.{BusKind}
 
 not_listed : (resolution : Resolution) → refused no_command ≡ listed resolution → ⊥
@@ -48,10 +49,21 @@ not_for_text (krate ∷ []) h = h
 not_for_text (krate ∷ script ∷ []) h = not_on_crate h.reading script h.answered
 not_for_text (krate ∷ script ∷ next ∷ inputs) h = h
 
+not_on_rows : (resolution : Resolution) (script : List ℕ) → AnswersOnRows resolution script (refused no_command) → ⊥
+not_on_rows (stopped why) script h = cc h
+not_on_rows (resolved rows) script h = not_scripted (table_surface rows) (table_plan rows) h.reading h.answered
+
+not_for_run : (inputs : List (List ℕ)) → DecidesRun inputs (refused no_command) → ⊥
+not_for_run [] h = h
+not_for_run (svd ∷ []) h = h
+not_for_run (svd ∷ script ∷ []) h = not_on_rows h.resolution script h.answered
+not_for_run (svd ∷ script ∷ next ∷ inputs) h = h
+
 not_decided : (command : Command) (inputs : List (List ℕ)) → Decides command inputs (refused no_command) → ⊥
 not_decided (Listing source) inputs h = not_from listed not_listed inputs h
 not_decided (Generating source) inputs h = not_from generated not_generated inputs h
 not_decided (Executing krate run) inputs h = not_for_text inputs h
+not_decided (Running source run) inputs h = not_for_run inputs h
 
 not_on : (command : Command) (gathering : Gathering) → DecidesOn command gathering (refused no_command) → ⊥
 not_on command (inputs_are inputs) h = not_decided command inputs h

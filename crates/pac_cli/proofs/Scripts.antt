@@ -29,18 +29,26 @@ use Rattle.frag_types.specs.Refusals.{IsCrateRefusal, IsScriptRefusal, crate_kin
 use Rattle.frag_types.specs.declared.fault.CrateFault.{CrateFault}
 use Rattle.frag_types.specs.declared.fault.CrateFault.TheVariants as krate
 use Rattle.pac_bus.proofs.Acting.{did_then}
-use Rattle.pac_bus.specs.EventTexts.{HoldsWord}
+use Rattle.pac_bus.specs.EventTexts.{HoldsWord, event_text}
 use Rattle.pac_bus.specs.Telling.{BusTold, Did}
 use Rattle.pac_io.proofs.WrittenUpTo.{none_written}
 use Rattle.pac_fault.specs.Classes.{Class, no_memory, bad_words, bad_read, bad_write, bad_bus, long_file, bad_input, class_of}
 use Rattle.pac_fault.specs.Layers.{of_parsing, of_script, of_typing}
 use Rattle.pac_fault.specs.declared.fault.PacFault.{PacFault}
 use Rattle.pac_fault.specs.declared.fault.PacFault.TheVariants.{Memory}
-use Rattle.pac_cli.specs.Answers.{Answer, AnswersScript, AnswersText, Decides, Plan, does, no_crate_text, no_script, refused, scripted, text_plan, unless_mistyped}
+use Rattle.pac_cli.specs.Answers.{Answer, AnswersRun, AnswersScript, AnswersText, Decides, Plan, does, no_crate_text, no_script, refused, scripted, table_plan, text_plan, unless_mistyped, unresolved}
 use Rattle.pac_cli.specs.Buses.{OthersStay, Slot, bus_of, lent_for}
 use Rattle.pac_words.specs.declared.command.Command.{Command}
-use Rattle.pac_words.specs.declared.command.Command.TheVariants.{Executing}
+use Rattle.pac_words.specs.declared.command.Command.TheVariants.{Executing, Running}
 use Rattle.pac_words.specs.declared.command.Run.{Run}
+use Rattle.pac_words.specs.declared.command.Source.{Source}
+use Rattle.frag_emit.specs.Standing.{StandsFor}
+use Rattle.svd_model.specs.Keys.{Key}
+use Rattle.svd_model.specs.Steps.{Step}
+use Rattle.svd_rows.specs.Rows.{Row}
+use Rattle.table_sem.specs.TableSurface.{table_surface}
+use Rattle.pac_cli.specs.Resolving.{ComeTo, SourceBytes, Unresolved, stopped, resolved}
+use Rattle.pac_cli.proofs.OneReading.{no_fault}
 use Rattle.pac_cli.specs.Scripts.{no_crate, modules_too_deep, misfits, untyped, typed, CrateReadAs, IsTreeOf, no_statement, too_many_statements, mistyped, Unscripted, unread, spelled, ScriptReadAs}
 use Rattle.pac_cli.specs.Stages.{Does, DoesNot, HasWrittenPart, IsScriptFor, IsUnfit, MakesAll, MakesFirst, MakesNone, MakesSome, ScriptsNot, TypesNot, acts_in}
 use Rattle.pac_cli.specs.Worlds.{Desk, Paper, desk}
@@ -229,3 +237,46 @@ executed command name run inputs text bytes before after old new was now result 
 -- and the other lent buses are those of the command
 pub others_executed : (command : Command) (name : List ℕ) (run : Run) (old new : List Slot) → command ≡ Executing name run → OthersStay (Some run.bus) old new → OthersStay (bus_of command) old new
 others_executed command name run old new is h = subst (λ (c : Command). OthersStay (bus_of c) old new) (sym is) h
+
+-- ---- a description
+
+-- a crate that fits is refused for want of memory alone
+pub only_memory : (tree : CrateTree) (fault : CrateFault) → CrateFits tree → IsCrateRefusal tree fault → of_typing fault ≡ Memory
+only_memory tree (krate.Syntax at) fits h = absurd h
+only_memory tree (krate.TooDeep at) fits h = absurd h
+only_memory tree (krate.Typing at kind) fits h = absurd (no_fault tree (crate_kind kind) fits h)
+only_memory tree krate.Memory fits h = refl
+
+-- a script does against a crate that stands for rows what it does against their register table
+same_plan : (rows : List (Row Step Key)) (tree : CrateTree) → StandsFor rows tree → text_plan tree ≡ table_plan rows
+same_plan rows tree stands = λ i text. record { presets = stands.presets text i; events = λ answers. stands.meaning text answers i; text = event_text }
+
+-- a description that comes to no rows is refused
+pub stops_run : (source : SourceBytes) (bytes : List ℕ) (why : Unresolved) → ComeTo source (stopped why) → AnswersRun source bytes (refused (unresolved why))
+stops_run source bytes why comes = record { resolution = stopped why; comes = comes; answered = refl }
+
+-- so the answers of scripts against it are those of the description
+pub answers_run : (source : SourceBytes) (rows : List (Row Step Key)) (tree : CrateTree) (bytes : List ℕ) (answer : Answer) → ComeTo source (resolved rows) → StandsFor rows tree
+    → AnswersScript (text_surface tree) (text_plan tree) bytes answer → AnswersRun source bytes answer
+answers_run source rows tree bytes answer comes stands h = record {
+  resolution = resolved rows;
+  comes = comes;
+  answered =
+      subst (λ (surface : Surface). AnswersScript surface (table_plan rows) bytes answer) stands.surface
+      (subst (λ (plan : Script → Plan). AnswersScript (text_surface tree) plan bytes answer) (same_plan rows tree stands) h);
+}
+
+-- running a script against the crate of a description is what the command decides
+pub has_run : {T : Type 0} (command : Command) (source : Source) (run : Run) (inputs : List (List ℕ)) (svd bytes : List ℕ) (before after : Paper) (old new : List Slot) (was now : BusTold)
+    (result : Result T PacFault) → command ≡ Running source run → inputs ≡ svd ∷ bytes ∷ [] → lent_for (Some run.bus) old ≡ Some was → lent_for (Some run.bus) new ≡ Some now
+    → Does (AnswersRun (record { svd = svd }) bytes) (desk before (Some was)) (desk after (Some now)) result
+    → Does (Decides command inputs) (desk before (lent_for (bus_of command) old)) (desk after (lent_for (bus_of command) new)) result
+has_run command source run inputs svd bytes before after old new was now result is given first last h =
+    subst (λ (c : Command). Does (Decides c inputs) (desk before (lent_for (bus_of c) old)) (desk after (lent_for (bus_of c) new)) result) (sym is)
+    (subst (λ (all : List (List ℕ)). Does (Decides (Running source run) all) (desk before (lent_for (Some run.bus) old)) (desk after (lent_for (Some run.bus) new)) result) (sym given)
+    (subst (λ (bus : Option BusTold). Does (AnswersRun (record { svd = svd }) bytes) (desk before bus) (desk after (lent_for (Some run.bus) new)) result) (sym first)
+    (subst (λ (bus : Option BusTold). Does (AnswersRun (record { svd = svd }) bytes) (desk before (Some was)) (desk after bus) result) (sym last) h)))
+
+-- and the other lent buses are those of the command
+pub others_run : (command : Command) (source : Source) (run : Run) (old new : List Slot) → command ≡ Running source run → OthersStay (Some run.bus) old new → OthersStay (bus_of command) old new
+others_run command source run old new is h = subst (λ (c : Command). OthersStay (bus_of c) old new) (sym is) h

@@ -14,10 +14,15 @@ use Rattle.crate_form.specs.Crates.{emitted}
 use Rattle.pac_bus.specs.EventTexts.{event_text}
 use Rattle.reg_table.specs.Listing.{listing}
 use Rattle.reg_table.specs.Registers.{table_of}
+use Rattle.svd_model.specs.Keys.{Key}
+use Rattle.svd_model.specs.Steps.{Step}
+use Rattle.svd_rows.specs.Rows.{Row}
+use Rattle.table_sem.specs.TableMeaning.{table_presets, table_run}
+use Rattle.table_sem.specs.TableSurface.{table_surface}
 use Rattle.pac_words.specs.Commands.{command_of}
 use Rattle.pac_words.specs.declared.command.BusKind.{BusKind}
 use Rattle.pac_words.specs.declared.command.Command.{Command}
-use Rattle.pac_words.specs.declared.command.Command.TheVariants.{Executing, Generating, Listing}
+use Rattle.pac_words.specs.declared.command.Command.TheVariants.{Executing, Generating, Listing, Running}
 use Rattle.pac_inputs.specs.Gathering.{FileMap, Gathering, inputs_are, is_too_long, Gathered}
 use Rattle.pac_cli.specs.Buses.{bus_of, missing_kind}
 use Rattle.pac_cli.specs.Inputs.{files_of}
@@ -76,6 +81,10 @@ pub record AnswersSource (made : Resolution → Answer) (source : SourceBytes) (
 abbrev pub text_plan : CrateTree → Script → Plan
 text_plan krate script = runs (text_presets krate script) (text_meaning krate script)
 
+-- what a script does against the register table of these rows
+abbrev pub table_plan : List (Row Step Key) → Script → Plan
+table_plan rows script = runs (table_presets (table_of rows) script) (table_run (table_of rows) script)
+
 -- what is answered where a script has this fault, or none and this plan
 abbrev pub unless_mistyped : Option LineFault → Plan → Answer
 unless_mistyped (Some fault) plan = refused (no_script (mistyped fault))
@@ -103,6 +112,17 @@ pub record AnswersText (krate script : List ℕ) (answer : Answer) : Type 0 wher
   pub comes : CrateReadAs krate reading
   pub answered : AnswersOnCrate reading script answer
 
+-- the answer to a script against what a description comes to: its register table decides it, not a text
+abbrev pub AnswersOnRows : Resolution → List ℕ → Answer → Type 0
+AnswersOnRows (stopped why) script answer = answer ≡ refused (unresolved why)
+AnswersOnRows (resolved rows) script answer = AnswersScript (table_surface rows) (table_plan rows) script answer
+
+-- the answer to a description and a script
+pub record AnswersRun (source : SourceBytes) (script : List ℕ) (answer : Answer) : Type 0 where
+  pub resolution : Resolution
+  pub comes : ComeTo source resolution
+  pub answered : AnswersOnRows resolution script answer
+
 -- ---- all commands
 
 -- the same of the inputs of a command whose files are those of a description
@@ -115,11 +135,17 @@ abbrev pub DecidesText : List (List ℕ) → Answer → Type 0
 DecidesText (krate ∷ script ∷ []) answer = AnswersText krate script answer
 DecidesText _ answer = ⊥
 
+-- the same of a description and a script
+abbrev pub DecidesRun : List (List ℕ) → Answer → Type 0
+DecidesRun (svd ∷ script ∷ []) answer = AnswersRun (record { svd = svd }) script answer
+DecidesRun _ answer = ⊥
+
 -- the answer to a command with these inputs
 abbrev pub Decides : Command → List (List ℕ) → Answer → Type 0
 Decides (Listing source) inputs answer = DecidesSource listed inputs answer
 Decides (Generating source) inputs answer = DecidesSource generated inputs answer
 Decides (Executing krate run) inputs answer = DecidesText inputs answer
+Decides (Running source run) inputs answer = DecidesRun inputs answer
 
 -- the answer to a command by what reading its files came to
 abbrev pub DecidesOn : Command → Gathering → Answer → Type 0

@@ -1,5 +1,5 @@
 ghost use Rattle.std.specs.Prelude.{◌≡◌, IfOk};
-ghost use Rattle.pac_cli.specs.Inputs.{execution_files, files_of, script_file, source_files};
+ghost use Rattle.pac_cli.specs.Inputs.{execution_files, files_of, run_files, script_file, source_files};
 
 use pac_base::{NoMemory, Text};
 use pac_inputs::Wanted;
@@ -19,6 +19,7 @@ pub(crate) fn files_of(alloc: Global, command: &Command) -> Result<Vec<Wanted>, 
     match command {
         Command::Listing { source } | Command::Generating { source } => source_files(alloc, source),
         Command::Executing { krate, run } => execution_files(alloc, krate, run),
+        Command::Running { source, run } => run_files(alloc, source, run),
     }
 }
 
@@ -45,6 +46,15 @@ fn execution_files(alloc: Global, krate: &Text, run: &Run) -> Result<Vec<Wanted>
         name,
         limit: LONGEST_CRATE,
     })?;
+    files.push(script_file(alloc, run)?)?;
+    Ok(files)
+}
+
+/// The files of a description, and the script that is run against its crate text.
+fn run_files(alloc: Global, source: &Source, run: &Run) -> Result<Vec<Wanted>, NoMemory>
+    ensures { IfOk result (λ files. files.items ≡ run_files source.now run.now) }
+{
+    let mut files = source_files(alloc, source)?;
     files.push(script_file(alloc, run)?)?;
     Ok(files)
 }

@@ -11,6 +11,7 @@ mod outcome;
 mod performing;
 mod resolving;
 mod run;
+mod running;
 mod script;
 mod slot;
 mod telling;

@@ -10,6 +10,7 @@ ghost use Rattle.pac_cli.specs.Worlds.{desk, paper};
 use crate::executing::execute;
 use crate::generating::generate;
 use crate::listing::list;
+use crate::running::run_against;
 use crate::slot::{BusSlot, place_of};
 use pac_bus::Bus;
 use pac_fault::PacFault;
@@ -43,8 +44,14 @@ pub(crate) fn perform<S: Sink, B: Bus>(
             let bus = &mut buses[place].bus;
             execute(alloc, krate.as_slice(), script.as_slice(), bus, out)
         }
+        (Command::Running { run, .. }, [svd, script]) => {
+            let place = place_of(buses.as_slice(), run.bus);
+            let bus = &mut buses[place].bus;
+            run_against(alloc, svd.as_slice(), script.as_slice(), bus, out)
+        }
         (Command::Listing { .. }, _) => unreachable!(),
         (Command::Generating { .. }, _) => unreachable!(),
         (Command::Executing { .. }, _) => unreachable!(),
+        (Command::Running { .. }, _) => unreachable!(),
     }
 }

@@ -23,6 +23,7 @@ fn bus_of(command: &Command) -> Option<BusKind>
         Command::Listing { .. } => None,
         Command::Generating { .. } => None,
         Command::Executing { run, .. } => Some(run.bus),
+        Command::Running { run, .. } => Some(run.bus),
     }
 }
 

@@ -1,5 +1,5 @@
 -- Words without a fault ask for a command.
-use Rattle.std.proofs.Common.{◌≡◌, ap, sym, refl, subst, Option, Some, None, List, [], ◌∷◌, Bool, true, false, ◌∙◌, codes, find, not, ◌&&◌, ◌||◌, if◌then◌else◌, is_some, option_map, option_and_then}
+use Rattle.std.proofs.Common.{◌≡◌, ap, ap₂, sym, refl, subst, Option, Some, None, List, [], ◌∷◌, Bool, true, false, ◌∙◌, codes, find, not, ◌&&◌, ◌||◌, if◌then◌else◌, is_some, option_map, option_and_then}
 use Rattle.std.specs.Bool.{⊤, IsTrue}
 use Rattle.std.specs.List.{list_any}
 use Rattle.std.specs.Option.{IsSome, option_map_or}
@@ -13,10 +13,11 @@ use Rattle.clap.specs.Walk.{Names, answers_to, finished, nothing_held, rows_afte
 use Rattle.clap.specs.Simple.{built, entered, label_of, names_of, rows_at}
 use Rattle.pac_words.proofs.Filled.{HavePlaces, given_value, rows_after_full}
 use Rattle.pac_words.specs.Table.{table}
-use Rattle.pac_words.specs.Commands.{NamesBus, bus_of, chosen, command_of, executing, generating, listing, run_of, runs_script, without_fault, told}
+use Rattle.pac_words.specs.Commands.{NamesBus, bus_of, chosen, command_of, executing, generating, listing, run_of, running, runs_script, source_of, without_fault, told}
 use Rattle.pac_words.specs.declared.command.BusKind.{BusKind}
-use Rattle.pac_words.specs.declared.command.Command.TheVariants.{Executing}
+use Rattle.pac_words.specs.declared.command.Command.TheVariants.{Executing, Running}
 use Rattle.pac_words.specs.declared.command.Run.{Run}
+use Rattle.pac_words.specs.declared.command.Source.{Source}
 
 later : (a b : Kinds) → or_else a b ≡ [] → b ≡ []
 later [] b none = none
@@ -118,6 +119,9 @@ bound : {X Y : Type 0} (f : X → Option Y) (o : Option X) → ((x : X) → IsSo
 bound f None all some = absurd (cc some)
 bound f (Some x) all some = all x
 
+abbrev source_named : Text → Source
+source_named svd = record { svd = svd }
+
 abbrev run_over : Text → BusKind → Run
 run_over script bus = record { script = script; bus = bus }
 
@@ -139,6 +143,19 @@ exec_tells s words name crate_place crate_demanded script_place script_demanded 
     (bound (λ (krate : Text). option_map (λ (of : Run). Executing krate of) (run_of rows)) (first_of (codes "crate") rows)
     (λ krate. mapped (λ (of : Run). Executing krate of) (run_of rows) run) (leaf_value s (codes "crate") words crate_place crate_demanded strict none))
 
+-- so is `run`
+run_tells : (s : Shape) (words : List Text) → s.name ≡ codes "run" → HavePlaces (codes "svd") s.rules → IsDemanded (codes "svd") s.rules
+    → HavePlaces (codes "script") s.rules → IsDemanded (codes "script") s.rules → s.subcommand_negates_reqs ≡ false
+    → level_fault s [] nothing_held words false [] ≡ [] → Named s.name (rows_after s.rules [] words) → IsSome (told s.name (rows_after s.rules [] words))
+run_tells s words name svd_place svd_demanded script_place script_demanded strict none named =
+    let rows = rows_after s.rules [] words in
+    let bus : IsSome (bus_of rows) = subst (λ (n : Text). Named n rows) name named in
+    let run : IsSome (run_of rows) = run_there rows bus (leaf_value s (codes "script") words script_place script_demanded strict none) in
+    let source : IsSome (source_of rows) = mapped (λ (svd : Text). source_named svd) (first_of (codes "svd") rows) (leaf_value s (codes "svd") words svd_place svd_demanded strict none) in
+    subst (λ (n : Text). IsSome (told n rows)) (sym name)
+    (bound (λ (source : Source). option_map (λ (of : Run). Running source of) (run_of rows)) (source_of rows)
+    (λ source. mapped (λ (of : Run). Running source of) (run_of rows) run) source)
+
 each_tells : Each Tells (built table).subs
 each_tells = (
   (λ words none named. mapped _ _ (mapped _ _ (leaf_value _ (codes "svd") words refl refl refl none))),
@@ -146,7 +163,7 @@ each_tells = (
     (λ words none named. mapped _ _ (mapped _ _ (leaf_value _ (codes "svd") words refl refl refl none))),
     (
       (λ words none named. exec_tells _ words refl refl refl refl refl refl none named),
-      tt,
+      ((λ words none named. run_tells _ words refl refl refl refl refl refl none named), tt),
     ),
   ),
 )
@@ -196,23 +213,39 @@ executing_named rows None run is some = absurd (cc some)
 executing_named rows (Some name) None is some = absurd (cc some)
 executing_named rows (Some name) (Some of) is some = run_named (first_of (codes "script") rows) (bus_of rows) (ap is_some is)
 
+running_named : (rows : List Row) (source : Option Source) (run : Option Run) → run_of rows ≡ run → IsSome (option_and_then (λ of. option_map (λ with. Running of with) run) source) → IsSome (bus_of rows)
+running_named rows None run is some = absurd (cc some)
+running_named rows (Some source) None is some = absurd (cc some)
+running_named rows (Some source) (Some of) is some = run_named (first_of (codes "script") rows) (bus_of rows) (ap is_some is)
+
+either_named : (one other named : Bool) → named ≡ true → (not (one || other) || named) ≡ true
+either_named true other true is = refl
+either_named false true true is = refl
+either_named false false named is = refl
+either_named one other false is = absurd (cc is)
+
 -- a command that runs a script has a bus
 told_named : (name : Text) (rows : List Row) → IsSome (told name rows) → Named name rows
 told_named name rows some = at_list (bytes_eq name (codes "list")) refl some
   where
+    has_bus : IsSome (bus_of rows) → Named name rows
+    has_bus bus = either_named (bytes_eq name (codes "exec")) (bytes_eq name (codes "run")) (is_some (bus_of rows)) bus
     same : (word : Text) → bytes_eq name word ≡ true → runs_script word ≡ false → Named name rows
     same word is other = ap (λ b. not b || is_some (bus_of rows)) (ap runs_script ((bytes_eq-Decides name word).0 is) ∙ other)
-
-    at_exec : (b : Bool) → IsSome (if b then executing rows else None) → IsTrue (not b || is_some (bus_of rows))
-    at_exec true some = executing_named rows (first_of (codes "crate") rows) (run_of rows) refl some
-    at_exec false some = refl
-
-    at_generate : (b : Bool) → bytes_eq name (codes "generate") ≡ b → IsSome (if b then generating rows else (if bytes_eq name (codes "exec") then executing rows else None)) → Named name rows
+    neither : (one other : Bool) → one ≡ false → other ≡ false → (not (one || other) || is_some (bus_of rows)) ≡ true
+    neither one other first second = ap₂ (λ a b. not (a || b) || is_some (bus_of rows)) first second
+    at_run : (b : Bool) → bytes_eq name (codes "exec") ≡ false → bytes_eq name (codes "run") ≡ b → IsSome (if b then running rows else None) → Named name rows
+    at_run true before is some = has_bus (running_named rows (source_of rows) (run_of rows) refl some)
+    at_run false before is some = neither (bytes_eq name (codes "exec")) (bytes_eq name (codes "run")) before is
+    at_exec : (b : Bool) → bytes_eq name (codes "exec") ≡ b → IsSome (if b then executing rows else (if bytes_eq name (codes "run") then running rows else None)) → Named name rows
+    at_exec true is some = has_bus (executing_named rows (first_of (codes "crate") rows) (run_of rows) refl some)
+    at_exec false is some = at_run (bytes_eq name (codes "run")) is refl some
+    at_generate : (b : Bool) → bytes_eq name (codes "generate") ≡ b
+        → IsSome (if b then generating rows else (if bytes_eq name (codes "exec") then executing rows else (if bytes_eq name (codes "run") then running rows else None))) → Named name rows
     at_generate true is some = same (codes "generate") is refl
-    at_generate false is some = at_exec (bytes_eq name (codes "exec")) some
-
+    at_generate false is some = at_exec (bytes_eq name (codes "exec")) refl some
     at_list : (b : Bool) → bytes_eq name (codes "list") ≡ b
-        → IsSome (if b then listing rows else (if bytes_eq name (codes "generate") then generating rows else (if bytes_eq name (codes "exec") then executing rows else None))) → Named name rows
+        → IsSome (if b then listing rows else (if bytes_eq name (codes "generate") then generating rows else (if bytes_eq name (codes "exec") then executing rows else (if bytes_eq name (codes "run") then running rows else None)))) → Named name rows
     at_list true is some = same (codes "list") is refl
     at_list false is some = at_generate (bytes_eq name (codes "generate")) refl some
 

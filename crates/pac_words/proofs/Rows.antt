@@ -3,7 +3,7 @@ use Rattle.std.proofs.Common.{◌≡◌, refl, Option, Some, None, List, [], ◌
 use Rattle.clap.proofs.OnLiterals.{clap_on_literals}
 use Rattle.pac_words.specs.Commands.{command_of}
 use Rattle.pac_words.specs.declared.command.Command.{Command}
-use Rattle.pac_words.specs.declared.command.Command.TheVariants.{Executing, Generating, Listing}
+use Rattle.pac_words.specs.declared.command.Command.TheVariants.{Executing, Generating, Listing, Running}
 use Rattle.pac_words.specs.declared.command.BusKind.{BusKind}
 use Rattle.pac_words.specs.declared.command.BusKind.TheVariants.{Zero, Memory}
 
@@ -101,7 +101,17 @@ a_bus_that_lists : command_of (codes "list" ∷ codes "x.svd" ∷ codes "--bus=z
 unfolding clap_on_literals command_of
 a_bus_that_lists = refl
 
+-- ---- `run`
+
+run_over_memory : command_of (codes "run" ∷ codes "x.svd" ∷ codes "--bus" ∷ codes "memory" ∷ codes "y" ∷ []) ≡ Some (Running (record { svd = codes "x.svd" }) (record { script = codes "y"; bus = Memory }))
+unfolding clap_on_literals command_of
+run_over_memory = refl
+
+run_without_script : command_of (codes "run" ∷ codes "x.svd" ∷ []) ≡ None
+unfolding clap_on_literals command_of
+run_without_script = refl
+
 -- a command that isn't built is none
-not_built : command_of (codes "run" ∷ codes "x.svd" ∷ codes "y" ∷ []) ≡ None
+not_built : command_of (codes "sample" ∷ codes "0" ∷ codes "1" ∷ []) ≡ None
 unfolding clap_on_literals command_of
 not_built = refl

@@ -5,7 +5,7 @@ use Rattle.std.specs.Str.{bytes_eq}
 use Rattle.clap.specs.Words.{Kinds, Row, Text, fault_of, first_of, subcommand_of}
 use Rattle.pac_words.specs.Table.{table}
 use Rattle.pac_words.specs.declared.command.Command.{Command}
-use Rattle.pac_words.specs.declared.command.Command.TheVariants.{Executing, Generating, Listing}
+use Rattle.pac_words.specs.declared.command.Command.TheVariants.{Executing, Generating, Listing, Running}
 use Rattle.pac_words.specs.declared.command.BusKind.{BusKind}
 use Rattle.pac_words.specs.declared.command.BusKind.TheVariants.{Zero, Memory}
 use Rattle.pac_words.specs.declared.command.Run.{Run}
@@ -40,9 +40,12 @@ run_of rows = option_and_then (λ script. option_map (λ bus. record { script = 
 abbrev pub executing : List Row → Option Command
 executing rows = option_and_then (λ krate. option_map (λ run. Executing krate run) (run_of rows)) (first_of (codes "crate") rows)
 
+abbrev pub running : List Row → Option Command
+running rows = option_and_then (λ source. option_map (λ run. Running source run) (run_of rows)) (source_of rows)
+
 -- the command of this name, by what was found for its arguments
 abbrev pub told : Text → List Row → Option Command
-told name rows = if bytes_eq name (codes "list") then listing rows else (if bytes_eq name (codes "generate") then generating rows else (if bytes_eq name (codes "exec") then executing rows else None))
+told name rows = if bytes_eq name (codes "list") then listing rows else (if bytes_eq name (codes "generate") then generating rows else (if bytes_eq name (codes "exec") then executing rows else (if bytes_eq name (codes "run") then running rows else None)))
 
 -- the command of the subcommand that was met
 abbrev pub chosen : Option (Text × List Row) → Option Command
@@ -55,7 +58,7 @@ without_fault (kind ∷ kinds) given = None
 
 -- a command of this name runs a script
 abbrev pub runs_script : Text → Bool
-runs_script name = bytes_eq name (codes "exec")
+runs_script name = bytes_eq name (codes "exec") || bytes_eq name (codes "run")
 
 -- `--bus` names a bus, where a command that runs a script is given it
 abbrev pub NamesBus : List Text → Type 0

@@ -24,6 +24,9 @@ generate = command (codes "generate") (file (codes "svd") ∷ [])
 abbrev pub exec : Shape
 exec = command (codes "exec") (file (codes "crate") ∷ file (codes "script") ∷ option (codes "bus") ∷ [])
 
+abbrev pub run : Shape
+run = command (codes "run") (file (codes "svd") ∷ file (codes "script") ∷ option (codes "bus") ∷ [])
+
 -- one of these commands has to be chosen, and no word asks for help
 abbrev pub commands : List Shape → App
 commands subs = record {
@@ -43,7 +46,7 @@ printing = list ∷ generate ∷ []
 
 -- the commands that run a script
 abbrev pub running : List Shape
-running = exec ∷ []
+running = exec ∷ run ∷ []
 
 abbrev pub table : App
 table = commands (printing ++ running)

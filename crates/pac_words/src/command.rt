@@ -1,6 +1,6 @@
 ghost use Rattle.std.specs.Prelude.{◌≡◌, IfOk, map};
 ghost use Rattle.clap.specs.Words.{first_of, found_of, rows_of};
-ghost use Rattle.pac_words.specs.Commands.{bus_of, command_of, executing, generating, kind_of, listing, run_of, source_of, told};
+ghost use Rattle.pac_words.specs.Commands.{bus_of, command_of, executing, generating, kind_of, listing, run_of, running, source_of, told};
 
 use crate::table::table;
 use clap::ArgMatches;
@@ -25,6 +25,13 @@ pub enum Command {
     Executing {
         /// The name of the crate text's file, as the words have it.
         krate: Text,
+        /// The script, and over which bus it runs.
+        run: Run,
+    },
+    /// `run SVD SCRIPT`: what a script does against the crate text of a description.
+    Running {
+        /// The description.
+        source: Source,
         /// The script, and over which bus it runs.
         run: Run,
     },
@@ -98,6 +105,7 @@ fn told(alloc: Global, name: &str, matches: &ArgMatches<'_>) -> Result<Option<Co
         "list" => listing(alloc, matches),
         "generate" => generating(alloc, matches),
         "exec" => executing(alloc, matches),
+        "run" => running(alloc, matches),
         _ => Ok(None),
     }
 }
@@ -128,6 +136,18 @@ fn executing(alloc: Global, matches: &ArgMatches<'_>) -> Result<Option<Command>,
     };
     match run_of(alloc, matches)? {
         Some(run) => Ok(Some(Command::Executing { krate, run })),
+        None => Ok(None),
+    }
+}
+
+fn running(alloc: Global, matches: &ArgMatches<'_>) -> Result<Option<Command>, NoMemory>
+    ensures { IfOk result (λ command. command ≡ running (rows_of (found_of matches.now))) }
+{
+    let Some(source) = source_of(alloc, matches)? else {
+        return Ok(None);
+    };
+    match run_of(alloc, matches)? {
+        Some(run) => Ok(Some(Command::Running { source, run })),
         None => Ok(None),
     }
 }

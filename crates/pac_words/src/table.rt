@@ -1,7 +1,7 @@
 ghost use Rattle.std.specs.Prelude.{◌≡◌, IfOk, false};
 ghost use Rattle.clap.specs.Words.{app_of, rule_of, shape_of};
 ghost use Rattle.clap.specs.declared.builder.command.Command.TheViews.{out-Command as fields_of};
-ghost use Rattle.pac_words.specs.Table.{commands, exec, file, generate, list, option, printing, table};
+ghost use Rattle.pac_words.specs.Table.{commands, exec, file, generate, list, option, printing, run, table};
 
 use clap::{Arg, Command};
 use std::alloc::{AllocError, Global};
@@ -43,6 +43,15 @@ fn exec<'a>(alloc: Global) -> Result<Command<'a>, AllocError>
         .arg(option(alloc, "bus"))
 }
 
+fn run<'a>(alloc: Global) -> Result<Command<'a>, AllocError>
+    ensures { IfOk result (λ command. (shape_of command ≡ run) × ((fields_of command).has_globals ≡ false)) }
+{
+    Command::new(alloc, "run")
+        .arg(file(alloc, "svd"))?
+        .arg(file(alloc, "script"))?
+        .arg(option(alloc, "bus"))
+}
+
 /// The commands that print a description.
 fn printing<'a>(alloc: Global) -> Result<Command<'a>, AllocError>
     ensures { IfOk result (λ command. app_of command ≡ commands printing) }
@@ -60,5 +69,7 @@ fn printing<'a>(alloc: Global) -> Result<Command<'a>, AllocError>
 pub(crate) fn table<'a>(alloc: Global) -> Result<Command<'a>, AllocError>
     ensures { IfOk result (λ command. app_of command ≡ table) }
 {
-    printing(alloc)?.subcommand(exec(alloc)?)
+    printing(alloc)?
+        .subcommand(exec(alloc)?)?
+        .subcommand(run(alloc)?)
 }
