@@ -13,6 +13,8 @@ mod harness;
 #[cfg(test)]
 mod inputs;
 #[cfg(test)]
+mod ran;
+#[cfg(test)]
 mod registers;
 #[cfg(test)]
 mod surroundings;

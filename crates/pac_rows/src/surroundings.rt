@@ -8,7 +8,7 @@ const USAGE: &str =
     "usage: pac list SVD, generate SVD, exec CRATE SCRIPT, run SVD SCRIPT or sample NUMBER COUNT, with --patch P, --strict, --bus zero or memory";
 
 // Words that are those of no command.
-const WORDS: [&[&str]; 25] = [
+const WORDS: [&[&str]; 26] = [
     &[],
     &[""],
     &["--"],
@@ -27,7 +27,8 @@ const WORDS: [&[&str]; 25] = [
     &["list", "x.svd", "y.svd"],
     &["generate"],
     &["--", "list", "x.svd"],
-    &["run", "x.svd", "x.script"],
+    &["run", "x.svd"],
+    &["sample", "0", "1"],
     &["exec"],
     &["exec", "x.rs"],
     &["exec", "x.rs", "x.script", "--bus"],
@@ -47,7 +48,7 @@ fn words_of_no_command(rt: HostRuntime) -> Result<(), Fail> {
 }
 
 // Words that name a file, and the name.
-const FILE_WORDS: [(&[&str], &str); 11] = [
+const FILE_WORDS: [(&[&str], &str); 12] = [
     (&["generate", "x.svd"], "cannot read x.svd"),
     (&["list", "x.svd"], "cannot read x.svd"),
     (&["list", "--", "x.svd"], "cannot read x.svd"),
@@ -59,6 +60,7 @@ const FILE_WORDS: [(&[&str], &str); 11] = [
     (&["exec", "--bus=memory", "x.rs", "x.script"], "cannot read x.rs"),
     (&["exec", "x.rs", "--bus", "zero", "x.script"], "cannot read x.rs"),
     (&["exec", "--", "--bus", "zero"], "cannot read --bus"),
+    (&["run", "x.svd", "x.script", "--bus=memory"], "cannot read x.svd"),
 ];
 
 #[test]
