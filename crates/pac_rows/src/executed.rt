@@ -47,7 +47,13 @@ fn executes(
 ) -> Result<(), Fail> {
     let files = files(rt, krate, script)?;
     let out = MemSink::new(rt.alloc());
-    call(rt, &["exec", "x.rs", "x.script", "--bus", bus], files, out, wanted)
+    call(
+        rt,
+        &["exec", "x.rs", "x.script", "--bus", bus],
+        files,
+        out,
+        wanted,
+    )
 }
 
 #[test]
@@ -164,7 +170,14 @@ fn bus_fails_midway(rt: HostRuntime) -> Result<(), Fail> {
         output: "read 0x40000000 32 0x00000000\nread 0x40000000 32 0x00000000\n",
         fault: "the bus failed after 2 events",
     };
-    call_over(&rt, &["exec", "x.rs", "x.script"], files, out, buses, &wanted)
+    call_over(
+        &rt,
+        &["exec", "x.rs", "x.script"],
+        files,
+        out,
+        buses,
+        &wanted,
+    )
 }
 
 #[test]
@@ -181,7 +194,14 @@ fn a_write_that_fails_behind_a_bus_that_failed(rt: HostRuntime) -> Result<(), Fa
     let mut out = MemSink::new(rt.alloc());
     out.fail(1)?;
     let wanted = refusal("the output fails too", 4, "cannot write");
-    call_over(&rt, &["exec", "x.rs", "x.script"], files, out, buses, &wanted)
+    call_over(
+        &rt,
+        &["exec", "x.rs", "x.script"],
+        files,
+        out,
+        buses,
+        &wanted,
+    )
 }
 
 #[test]

@@ -101,7 +101,13 @@ fn script_faults(rt: HostRuntime) -> Result<(), Fail> {
     for (script, fault) in FAULTS {
         let files = files(&rt, ONE_REGISTER, script)?;
         let out = MemSink::new(rt.alloc());
-        call(&rt, &["run", "x.svd", "x.script"], files, out, &refusal(script, 10, fault))?;
+        call(
+            &rt,
+            &["run", "x.svd", "x.script"],
+            files,
+            out,
+            &refusal(script, 10, fault),
+        )?;
     }
     Ok(())
 }

@@ -57,10 +57,19 @@ const FILE_WORDS: [(&[&str], &str); 12] = [
     (&["list", "-"], "cannot read -"),
     (&["list", ""], "cannot read "),
     (&["exec", "x.rs", "x.script"], "cannot read x.rs"),
-    (&["exec", "--bus=memory", "x.rs", "x.script"], "cannot read x.rs"),
-    (&["exec", "x.rs", "--bus", "zero", "x.script"], "cannot read x.rs"),
+    (
+        &["exec", "--bus=memory", "x.rs", "x.script"],
+        "cannot read x.rs",
+    ),
+    (
+        &["exec", "x.rs", "--bus", "zero", "x.script"],
+        "cannot read x.rs",
+    ),
     (&["exec", "--", "--bus", "zero"], "cannot read --bus"),
-    (&["run", "x.svd", "x.script", "--bus=memory"], "cannot read x.svd"),
+    (
+        &["run", "x.svd", "x.script", "--bus=memory"],
+        "cannot read x.svd",
+    ),
 ];
 
 #[test]
