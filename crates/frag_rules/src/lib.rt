@@ -1,0 +1,9 @@
+// The typing rules of crate texts: the first that a crate breaks, in the order of the rules, and the first item of
+// the text that breaks it. Each module is looked at once for each rule, and no chain of accessors is ever walked.
+#![tactic(auto)]
+
+mod parts;
+mod place;
+mod rule;
+
+pub use rule::Rule;
