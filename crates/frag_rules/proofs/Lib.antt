@@ -1,1 +1,8 @@
+mod Distinct
+mod Entries
 mod Gathering
+mod Insides
+mod Misfits
+mod PreludeWords
+mod BlockTests
+mod ByName

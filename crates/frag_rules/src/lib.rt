@@ -2,8 +2,13 @@
 // the text that breaks it. Each module is looked at once for each rule, and no chain of accessors is ever walked.
 #![tactic(auto)]
 
+mod block;
+mod inside;
+mod named;
 mod parts;
 mod place;
+mod prelude;
+mod register;
 mod rule;
 
 pub use rule::Rule;

@@ -55,6 +55,12 @@ fn items_of(unit: &RegisterModule) -> usize {
         .saturating_add(1)
 }
 
+/// How many items a block module is without the modules inside it.
+pub(crate) fn own_items(unit: &Block) -> usize {
+    let own = unit.fields.len().saturating_add(unit.accessors.len());
+    own.saturating_add(1)
+}
+
 impl<'a> Parts<'a> {
     /// Lists a register module behind the others.
     fn list_register(&mut self, unit: &'a RegisterModule) -> Result<(), NoMemory>
@@ -76,8 +82,7 @@ impl<'a> Parts<'a> {
             item: self.items,
             unit,
         })?;
-        let own = unit.fields.len().saturating_add(unit.accessors.len());
-        self.items = self.items.saturating_add(own).saturating_add(1);
+        self.items = self.items.saturating_add(own_items(unit));
         Ok(())
     }
 }
@@ -130,5 +135,28 @@ fn gather_module<'a>(module: &'a Module, parts: &mut Parts<'a>) -> Result<(), No
     match module {
         Module::Block(block) => gather_block(block, parts),
         Module::Register(unit) => parts.list_register(unit),
+    }
+}
+
+/// How many items the modules before one of a parent are, with all that is inside them.
+pub(crate) fn items_before(modules: &[Module], index: usize) -> usize {
+    let mut items = 0usize;
+    for module in modules.iter().take(index) {
+        items = items.saturating_add(items_at(module));
+    }
+    items
+}
+
+/// How many items a module is, with all that is inside it.
+fn items_at(module: &Module) -> usize {
+    match module {
+        Module::Register(unit) => items_of(unit),
+        Module::Block(block) => {
+            let mut items = own_items(block);
+            for inner in block.modules.as_slice() {
+                items = items.saturating_add(items_at(inner));
+            }
+            items
+        }
     }
 }
