@@ -1,9 +1,9 @@
 -- The tests of fields and accessors, as they are decided by maps.
-use Rattle.std.proofs.Common.{◌≡◌, ℕ, Bool, true, not, ◌&&◌, List, Option, Some, None, find, option_map, is_some, refl, sym, ap, ◌∙◌}
+use Rattle.std.proofs.Common.{◌≡◌, ℕ, Bool, true, false, not, ◌&&◌, List, [], ◌∷◌, map, Option, Some, None, find, option_map, is_some, refl, sym, ap, ◌∙◌}
 use Rattle.std.specs.Str.{bytes_eq}
 use Rattle.frag_sem.specs.CallPlaces.{field_named}
-use Rattle.frag_sem.specs.CrateTyping.{body_types, holds_such, is_array, is_module, is_one, names_field, names_module}
-use Rattle.frag_sem.specs.Modules.{module_of}
+use Rattle.frag_sem.specs.CrateTyping.{body_types, holds_such, is_array, is_module, is_one, module_names, names_field, names_module}
+use Rattle.frag_sem.specs.Modules.{module_name, module_of, modules_of}
 use Rattle.frag_tree.specs.declared.access.Access.{Access}
 use Rattle.frag_tree.specs.declared.access.Body.{Body}
 use Rattle.frag_tree.specs.declared.access.Body.TheVariants as body
@@ -11,8 +11,10 @@ use Rattle.frag_tree.specs.declared.block.Element.{Element}
 use Rattle.frag_tree.specs.declared.block.FieldType.{FieldType}
 use Rattle.frag_tree.specs.declared.block.FieldType.TheVariants as holds
 use Rattle.frag_tree.specs.declared.block.StructField.{StructField}
-use Rattle.frag_tree.specs.Trees.{ModuleTree, Modules}
+use Rattle.frag_tree.specs.declared.block.Module.{Module}
+use Rattle.frag_tree.specs.Trees.{ModuleTree, Modules, in_line, module_tree, one_block, one_register}
 use Rattle.frag_rules.specs.Bodies.{body_fits, body_leads, type_leads}
+use Rattle.frag_rules.specs.Elements.{element_of}
 use Rattle.frag_rules.specs.Insides.{is_there}
 
 -- a module is found just where it is there
@@ -39,3 +41,24 @@ body-fits look fields same access (body.Field field) = ap (λ o. not access.is_i
 body-fits look fields same access (body.Member field) = ap (λ o. access.is_indexed && holds_such (is_array access.element) o) (same field)
 body-fits look fields same access (body.At offset) = refl
 body-fits look fields same access (body.AtIndex offset stride count) = refl
+
+-- ---- distinct names
+
+pub names-in-line : (modules : List Module) → map (λ unit. module_name (element_of (module_tree unit))) modules ≡ module_names (in_line (map module_tree modules))
+unfolding in_line modules_of
+names-in-line [] = refl
+names-in-line (first ∷ others) = by (module_tree first) (names-in-line others)
+  where
+    by : (tree : ModuleTree) → map (λ unit. module_name (element_of (module_tree unit))) others ≡ module_names (in_line (map module_tree others))
+        → (module_name (element_of tree) ∷ map (λ unit. module_name (element_of (module_tree unit))) others) ≡ module_names (in_line (tree ∷ map module_tree others))
+    by (one_register unit) more = ap (λ names. unit.name ∷ names) more
+    by (one_block unit) more = ap (λ names. unit.head.name ∷ names) more
+
+-- in the order of the definition
+pub names-together : (fields accessors modules : Bool) → ((fields && accessors) && modules) ≡ (modules && (fields && accessors))
+names-together true true true = refl
+names-together true true false = refl
+names-together true false true = refl
+names-together true false false = refl
+names-together false accessors true = refl
+names-together false accessors false = refl

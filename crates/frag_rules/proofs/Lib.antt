@@ -2,7 +2,10 @@ mod Distinct
 mod Entries
 mod Gathering
 mod Insides
+mod Keys
 mod Misfits
 mod PreludeWords
+mod RegisterTests
+mod Results
 mod BlockTests
 mod ByName

@@ -3,6 +3,7 @@ pub mod Elements
 pub mod Gathering
 pub mod Held
 pub mod Insides
+pub mod Keys
 pub mod Naming
 pub mod Parts
 pub mod Rules

@@ -10,5 +10,6 @@ mod place;
 mod prelude;
 mod register;
 mod rule;
+mod values;
 
 pub use rule::Rule;

@@ -324,6 +324,7 @@ fn same_truth(one: bool, other: bool) -> bool
 }
 
 /// Whether the calls of the fields stand exactly with their directions.
+#[tactic(auto, unfolding(crate::specs::Rules::register_test))]
 fn directions_agree(unit: &RegisterModule) -> bool
     ensures { result ≡ register_test RegisterRule.Directions Version.One unit.now }
 {

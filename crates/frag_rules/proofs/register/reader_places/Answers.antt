@@ -1,0 +1,14 @@
+use Rattle.std.proofs.Common.{◌≡◌, ◌&&◌, is_none, is_some, refl, sym, ap, ap₂, ◌∙◌}
+use Rattle.pac_base.specs.Widths.{bits_of}
+use Rattle.frag_sem.specs.CrateTyping.{is_free, is_marker, read_fits, write_fits}
+use Rattle.frag_sem.specs.Spots.{read_spot, spot_has_members, write_spot}
+use Rattle.frag_rules.specs.Naming.{named_in}
+use Rattle.frag_rules.specs.Rules.{register_test}
+use Rattle.frag_rules.proofs.Misfits.{no-misfit}
+use Rattle.frag_rules.proofs.RegisterTests.{is-declared}
+use Rattle.frag_rules.proofs.register.reader_places.Goals as goal
+
+pub returns : goal.returns
+unfolding register_test
+returns c =
+    no-misfit (λ reader. read_fits (bits_of c.args.unit.now.word) reader.form) (λ reader. read_fits (bits_of c.args.unit.now.word) reader.form) _ _ _ _ (λ reader. refl) c.readers_of.ensures c.reader_out_of_place.ensures c.reader_item.ensures
