@@ -1,5 +1,7 @@
 -- Things that are seen one after the other are distinct where each is new.
-use Rattle.std.proofs.Common.{◌≡◌, Bool, true, false, not, ◌&&◌, ◌||◌, List, [], ◌∷◌, ◌++◌, refl, sym, ap, ap₂, ◌∙◌}
+use Rattle.std.proofs.Common.{◌≡◌, ℕ, ◌+◌, ◌<◌, ◌≤◌, add-one, drop, length, slice_index_or, Bool, true, false, not, ◌&&◌, ◌||◌, List, [], ◌∷◌, ◌++◌, refl, sym, ap, ap₂, ◌∙◌}
+use Rattle.std.proofs.lemmas.List.{drop_all}
+use Rattle.std.proofs.Math.Seq.{drop-cons}
 use Rattle.std.specs.List.{list_all, list_any}
 use Rattle.frag_sem.specs.Modules.{are_distinct}
 
@@ -69,3 +71,10 @@ fresh-stops same seen all others first is old = rw is (ap (λ b. b && fresh_behi
 pub fresh-done : {A : Type 0} (same : A → A → Bool) (seen all : List A) → all ≡ [] → true ≡ fresh_behind same seen all
 unfolding fresh_behind
 fresh-done same seen all is = rw is refl
+
+-- what is left of a list, from an index on
+pub drop-at : {A : Type 0} (xs : List A) (i : ℕ) (past : A) → i < length xs → drop i xs ≡ slice_index_or xs i past ∷ drop (i + 1) xs
+drop-at xs i past within = rw (add-one, drop-cons xs i past) refl
+
+pub drop-end : {A : Type 0} (xs : List A) (i : ℕ) → length xs ≤ i → drop i xs ≡ []
+drop-end xs i past = drop_all i xs past

@@ -1,5 +1,6 @@
 mod Distinct
 mod Entries
+mod Firsts
 mod Gathering
 mod Insides
 mod Keys

@@ -28,3 +28,23 @@ none-misfits {A} test other same xs = is_place (nat_lt (position_or_len (λ x. n
 -- the place of an item is none just where all pass
 pub no-misfit : {A : Type 0} (test other : A → Bool) (xs ys : List A) (found item : Option ℕ) → ((x : A) → test x ≡ other x) → xs ≡ ys → found ≡ misfit test xs → is_none item ≡ is_none found → is_none item ≡ list_all other ys
 no-misfit test other xs ys found item same is at so = so ∙ (ap is_none at ∙ (none-misfits test other same xs ∙ ap (list_all other) is))
+
+-- ---- the first of all that is found
+
+pub found-more : {A : Type 0} (test : A → Bool) (all others : List A) (first : A) (found found' at item : Option ℕ) → all ≡ first ∷ others
+    → is_none found' ≡ (is_none found && is_none at) → is_none at ≡ is_none item → is_none item ≡ test first
+    → (is_none found' && list_all test others) ≡ (is_none found && list_all test all)
+found-more test all others first found found' at item is more so tells =
+    ap (λ b. b && list_all test others) (more ∙ ap (λ b. is_none found && b) (so ∙ tells))
+    ∙ (by (is_none found) (test first) (list_all test others) ∙ ap (λ xs. is_none found && list_all test xs) (sym is))
+  where
+    by : (a b c : Bool) → ((a && b) && c) ≡ (a && (b && c))
+    by true b c = refl
+    by false b c = refl
+
+pub found-done : {A : Type 0} (test : A → Bool) (all : List A) (found : Option ℕ) → all ≡ [] → is_none found ≡ (is_none found && list_all test all)
+found-done test all found is = rw is (by (is_none found))
+  where
+    by : (b : Bool) → b ≡ (b && true)
+    by true = refl
+    by false = refl

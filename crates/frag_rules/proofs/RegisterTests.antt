@@ -18,3 +18,7 @@ is-among name (first ∷ others) = by (bytes_eq name first) (is-among name other
 -- a marker is found just where it is declared
 pub is-declared : (unit : RegisterModule) (markers : List (List ℕ)) (named : List (List ℕ × Bor (List ℕ))) → markers ≡ unit.markers → FindsFirst (λ name. name) markers named → (marker : List ℕ) → is_some (named_in named marker) ≡ is_marker unit marker
 is-declared unit markers named is finds marker = ap is_some (finds marker) ∙ (is-among marker markers ∙ ap (list_any (bytes_eq marker)) is)
+
+pub same : {A : Type 0} (xs : List A) → map (λ x. x) xs ≡ xs
+same [] = refl
+same (x ∷ xs) = ap (λ ys. x ∷ ys) (same xs)

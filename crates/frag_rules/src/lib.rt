@@ -3,6 +3,7 @@
 #![tactic(auto)]
 
 mod block;
+mod first;
 mod inside;
 mod named;
 mod parts;
@@ -12,4 +13,5 @@ mod register;
 mod rule;
 mod values;
 
+pub use first::{Broken, first_broken};
 pub use rule::Rule;

@@ -13,6 +13,7 @@ use crate::named::{Named, by_name, first_again};
 use crate::place::{behind, earlier};
 use crate::prelude::is_free;
 use crate::rule::RegisterRule;
+use crate::values::{value_calls, value_literals, value_names, value_types};
 use frag_tree::{
     Constant, Identifier, ReadForm, Reader, RegisterModule, Spot, Version, WriteForm, Writer,
 };
@@ -346,4 +347,55 @@ fn writer_of_prelude(version: Version, writers: &[Writer]) -> Option<usize>
     writers
         .iter()
         .position(|writer| !is_free(version, writer.name.bytes()))
+}
+
+/// The first marker, reader, writer or call of a value whose name another has that stands before it.
+fn distinct_names(alloc: Global, unit: &RegisterModule) -> Result<Option<usize>, NoMemory>
+    ensures { IfOk result (λ item. is_none item ≡ register_test RegisterRule.DistinctNames Version.One unit.now) }
+{
+    let marker = first_again(alloc, unit.markers.as_slice())?;
+    let reader = first_again(alloc, readers_of(unit))?;
+    let writer = first_again(alloc, writers_of(unit))?;
+    let call = value_calls(alloc, unit)?;
+    let field = earlier(writer_item(unit, writer), call);
+    Ok(earlier(
+        marker_item(marker),
+        earlier(reader_item(unit, reader), field),
+    ))
+}
+
+/// The first reader, writer or call of a value that has a name of the prelude.
+fn prelude_names(version: Version, unit: &RegisterModule) -> Option<usize>
+    ensures { is_none result ≡ register_test RegisterRule.PreludeNames version unit.now }
+{
+    let reader = reader_of_prelude(version, readers_of(unit));
+    let writer = writer_of_prelude(version, writers_of(unit));
+    let field = earlier(writer_item(unit, writer), value_names(version, unit));
+    earlier(reader_item(unit, reader), field)
+}
+
+/// The first item of a register module that breaks the rule, counted from the module itself.
+#[tactic(auto, unfolding(crate::specs::Rules::register_test))]
+pub(crate) fn broken_in_register(
+    alloc: Global,
+    rule: RegisterRule,
+    version: Version,
+    unit: &RegisterModule,
+) -> Result<Option<usize>, NoMemory>
+    ensures { IfOk result (λ item. is_none item ≡ register_test rule version unit.now) }
+{
+    match rule {
+        RegisterRule::DistinctNames => distinct_names(alloc, unit),
+        RegisterRule::Counts => Ok(counts(unit)),
+        RegisterRule::ConstantTypes => Ok(itself(constants_have_type(unit))),
+        RegisterRule::ConstantValues => Ok(itself(constants_fit(unit))),
+        RegisterRule::ReaderMarkers => reader_markers(alloc, unit),
+        RegisterRule::ReaderPlaces => Ok(reader_places(unit)),
+        RegisterRule::WriterMarkers => writer_markers(alloc, unit),
+        RegisterRule::WriterPlaces => Ok(writer_places(unit)),
+        RegisterRule::ValueTypes => Ok(value_types(unit)),
+        RegisterRule::ValueLiterals => Ok(value_literals(unit)),
+        RegisterRule::PreludeNames => Ok(prelude_names(version, unit)),
+        RegisterRule::Directions => Ok(itself(directions_agree(unit))),
+    }
 }

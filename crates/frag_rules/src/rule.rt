@@ -1,7 +1,8 @@
 ghost use Rattle.std.specs.Prelude.{◌≡◌};
 ghost use Rattle.frag_rules.specs.Rules.{all_rules};
 
-/// The typing rules of crate texts, in their order. Where a rule has two kinds of faults, each is a rule here.
+/// The typing rules of crate texts but that of the address range, in their order. Where a rule has two kinds of
+/// faults, each is a rule here.
 #[derive(Clone, Copy, Debug, PartialEq, Eq)]
 pub enum Rule {
     /// Names are distinct: of slots, of the modules of one parent, of struct fields, accessors, markers, readers
@@ -37,13 +38,11 @@ pub enum Rule {
     PreludeNames,
     /// Readers stand exactly where the register is readable, and writers exactly where it is writable.
     Directions,
-    /// Every block's size is at most 2^64, and so is the end of each register.
-    AddressRange,
 }
 
 /// All rules in their order.
 #[tactic(auto, unfolding(crate::specs::Rules::all_rules))]
-pub(crate) fn all_rules() -> [Rule; 17]
+pub(crate) fn all_rules() -> [Rule; 16]
     ensures { result ≡ all_rules }
 {
     [
@@ -63,7 +62,6 @@ pub(crate) fn all_rules() -> [Rule; 17]
         Rule::ValueLiterals,
         Rule::PreludeNames,
         Rule::Directions,
-        Rule::AddressRange,
     ]
 }
 

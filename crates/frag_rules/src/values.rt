@@ -296,18 +296,28 @@ fn call_item(unit: &RegisterModule, block: usize, call: usize) -> usize {
     items_before_block(unit, block).saturating_add(call)
 }
 
+/// The first literal of a block that doesn't fit its type, as an item of the register module.
+fn literal_of(unit: &RegisterModule, block: usize) -> usize {
+    match unit.values.get(block) {
+        Some(values) => call_item(unit, block, literal_item(values)),
+        None => 0,
+    }
+}
+
+/// The first call of a block that has a name of the prelude, as an item of the register module.
+fn taken_of(version: Version, unit: &RegisterModule, block: usize) -> usize {
+    match unit.values.get(block) {
+        Some(values) => call_item(unit, block, taken_item(version, values)),
+        None => 0,
+    }
+}
+
 /// The first literal that doesn't fit the type of its value.
 pub(crate) fn value_literals(unit: &RegisterModule) -> Option<usize>
     ensures { is_none result ≡ register_test RegisterRule.ValueLiterals Version.One unit.now }
 {
     match block_out_of_range(unit.values.as_slice()) {
-        Some(block) => {
-            let call = match unit.values.get(block) {
-                Some(values) => literal_item(values),
-                None => 0,
-            };
-            Some(call_item(unit, block, call))
-        }
+        Some(block) => Some(literal_of(unit, block)),
         None => None,
     }
 }
@@ -317,13 +327,7 @@ pub(crate) fn value_names(version: Version, unit: &RegisterModule) -> Option<usi
     ensures { is_none result ≡ list_all (λ block. list_all (is_free version) (value_names block)) unit.now.values }
 {
     match block_of_prelude(version, unit.values.as_slice()) {
-        Some(block) => {
-            let call = match unit.values.get(block) {
-                Some(values) => taken_item(version, values),
-                None => 0,
-            };
-            Some(call_item(unit, block, call))
-        }
+        Some(block) => Some(taken_of(version, unit, block)),
         None => None,
     }
 }
@@ -402,12 +406,10 @@ fn first_call_again(alloc: Global, calls: &[CallKey<'_>]) -> Result<Option<usize
     ensures { IfOk result (λ again. is_none again ≡ are_distinct same_call_key (map call_seen calls.now)) }
 {
     let mut seen = IndexSet::new(alloc);
-    let mut rest = calls;
-    while let Some((first, others)) = rest.split_first() {
-        if !is_new_call(&mut seen, *first)? {
-            return Ok(Some(calls.len().saturating_sub(rest.len())));
+    for at in 0..calls.len() {
+        if !is_new_call(&mut seen, calls[at])? {
+            return Ok(Some(at));
         }
-        rest = others;
     }
     Ok(None)
 }

@@ -16,4 +16,4 @@ returns c =
     (c.field_item.ensures ∙ (c.in_ok-field.ensures ∙ ap (λ fields. are_distinct_names (map (λ field. field.name) fields)) c.fields_of.ensures))
     (c.accessor_item.ensures ∙ (c.in_ok-accessor.ensures ∙ ap (λ accessors. are_distinct_names (map (λ access. access.name) accessors)) c.accessors_of.ensures)))
     (c.module_item.ensures ∙ (c.in_ok-inner.ensures ∙ (ap are_distinct_names (names-in-line c.modules_of.result.now) ∙ ap (λ modules. are_distinct_names (module_names modules)) c.modules_of.ensures)))
-    ∙ names-together _ _ _)
+    ∙ names-together (are_distinct_names (map (λ field. field.name) (block_tree c.args.block.now).head.fields)) (are_distinct_names (map (λ access. access.name) (block_tree c.args.block.now).head.accessors)) (are_distinct_names (module_names (block_tree c.args.block.now).inside)))
