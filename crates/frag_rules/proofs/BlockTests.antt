@@ -1,6 +1,5 @@
 -- The tests of fields and accessors, as they are decided by maps.
-use Rattle.std.proofs.Common.{◌≡◌, ℕ, Bool, true, false, not, ◌&&◌, List, [], ◌∷◌, map, Option, Some, None, find, option_map, is_some, refl, sym, ap, ◌∙◌}
-use Rattle.std.specs.Str.{bytes_eq}
+use Rattle.std.proofs.Common.{◌≡◌, ℕ, Bool, true, false, not, ◌&&◌, List, [], ◌∷◌, map, Option, Some, None, option_map, is_some, refl, ap, ◌∙◌}
 use Rattle.frag_sem.specs.CallPlaces.{field_named}
 use Rattle.frag_sem.specs.CrateTyping.{body_types, holds_such, is_array, is_module, is_one, module_names, names_field, names_module}
 use Rattle.frag_sem.specs.Modules.{module_name, module_of, modules_of}

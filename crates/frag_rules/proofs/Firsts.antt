@@ -1,9 +1,9 @@
 -- The first rule that a crate breaks.
-use Rattle.std.proofs.Common.{◌≡◌, ℕ, Bool, true, false, List, [], ◌∷◌, map, find, Option, Some, None, is_none, is_some, option_map, length, refl, sym, ap, ◌∙◌, if◌then◌else◌}
+use Rattle.std.proofs.Common.{◌≡◌, ℕ, Bool, true, false, List, [], ◌∷◌, map, find, Option, Some, None, is_none, is_some, refl, sym, ap, ◌∙◌, if◌then◌else◌}
 use Rattle.std.specs.Borrow.{Bor}
 use Rattle.std.specs.Str.{bytes_eq}
-use Rattle.frag_sem.specs.CrateTyping.{TypingKind, bodies_fit, bodies_name_fields, constants_fit, constants_have_type, counts_are_some, directions_agree, first_failed, names_are_free, names_differ, paths_lead, reader_markers, reader_places, slots_lead, tests, value_literals, value_types, writer_markers, writer_places}
-use Rattle.frag_sem.specs.Modules.{are_distinct_names, top_block}
+use Rattle.frag_sem.specs.CrateTyping.{bodies_fit, bodies_name_fields, constants_fit, constants_have_type, counts_are_some, directions_agree, first_failed, names_are_free, names_differ, paths_lead, reader_markers, reader_places, slots_lead, tests, value_literals, value_types, writer_markers, writer_places}
+use Rattle.frag_sem.specs.Modules.{top_block}
 use Rattle.frag_tree.specs.declared.block.Block.{Block}
 use Rattle.frag_tree.specs.Trees.{CrateTree, block_tree}
 use Rattle.frag_rules.specs.declared.rule.Rule.{Rule}

@@ -8,7 +8,7 @@ use Rattle.frag_tree.specs.declared.block.Block.{Block}
 use Rattle.frag_tree.specs.declared.block.Module.{Module}
 use Rattle.frag_tree.specs.declared.krate.Crate.{Crate}
 use Rattle.frag_tree.specs.declared.register.RegisterModule.{RegisterModule}
-use Rattle.frag_tree.specs.Trees.{BlockTree, CrateTree, ModuleTree, Modules, before, block_tree, in_line, crate_tree, module_tree, one_block, one_register}
+use Rattle.frag_tree.specs.Trees.{BlockTree, ModuleTree, Modules, before, block_tree, in_line, crate_tree, module_tree, one_block, one_register}
 use Rattle.frag_rules.specs.Gathering.{blocks_at, registers_at}
 use Rattle.frag_rules.specs.Parts.{Laid, laid_out, with_more}
 

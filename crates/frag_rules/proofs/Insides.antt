@@ -1,5 +1,5 @@
 -- What is known of the modules of one parent, as it is put together.
-use Rattle.std.proofs.Common.{◌≡◌, ℕ, Bool, true, false, List, [], ◌∷◌, length, map, Option, Some, None, option_map, Result, refl, sym, ap, ◌∙◌, if◌then◌else◌}
+use Rattle.std.proofs.Common.{◌≡◌, ℕ, Bool, true, false, List, [], ◌∷◌, map, Option, Some, None, option_map, Result, refl, sym, ap, ◌∙◌, if◌then◌else◌}
 use Rattle.std.specs.Prelude.{IfOk, Ok, Err}
 use Rattle.std.specs.Map.{lookup}
 use Rattle.std.specs.Option.{option_or}
@@ -10,7 +10,7 @@ use Rattle.frag_tree.specs.declared.block.Element.TheVariants as element
 use Rattle.frag_tree.specs.declared.block.Block.{Block}
 use Rattle.frag_tree.specs.declared.block.Module.{Module}
 use Rattle.frag_tree.specs.declared.register.RegisterModule.{RegisterModule}
-use Rattle.frag_tree.specs.Trees.{ModuleTree, Modules, before, block_tree, in_line, module_tree, one_block, one_register}
+use Rattle.frag_tree.specs.Trees.{ModuleTree, before, block_tree, in_line, module_tree, one_block, one_register}
 use Rattle.frag_rules.specs.declared.inside.Inside.{Inside}
 use Rattle.frag_rules.specs.Elements.{element_of}
 use Rattle.frag_rules.specs.Insides.{found_inside, holds_nothing}

@@ -7,9 +7,9 @@ use Rattle.std.proofs.lemmas.Bool.Decides.{nat_tests}
 use Rattle.std.proofs.lemmas.List.{map-append}
 use Rattle.std.proofs.lemmas.List.Folds.{list_all-append, list_all-map, list_any-append}
 use Rattle.indexmap.specs.IndexSet.{insert_key}
-use Rattle.frag_sem.specs.CrateTyping.{is_free, same_call, value_calls}
+use Rattle.frag_sem.specs.CrateTyping.{is_free, same_call}
 use Rattle.frag_sem.specs.Modules.{are_distinct}
-use Rattle.frag_sem.specs.ProxyTypes.{ProxyType, bit_reader, bit_writer, field_reader, field_writer, number_calls, reader_type, readers_of, same_type, truth_calls, types_of, value_names, values_type, writer_type, writers_of}
+use Rattle.frag_sem.specs.ProxyTypes.{ProxyType, bit_reader, bit_writer, field_reader, field_writer, number_calls, reader_type, readers_of, same_type, truth_calls, types_of, values_type, writer_type, writers_of}
 use Rattle.frag_tree.specs.declared.krate.Version.{Version}
 use Rattle.frag_tree.specs.declared.register.NumberCall.{NumberCall}
 use Rattle.frag_tree.specs.declared.register.Reader.{Reader}

@@ -1,5 +1,5 @@
 -- Of a list nothing is at fault just where each item passes.
-use Rattle.std.proofs.Common.{◌≡◌, ℕ, ◌+◌, ◌<◌, Bool, true, false, not, ◌&&◌, List, [], ◌∷◌, Option, Some, None, is_none, length, refl, sym, ap, ap₂, ◌∙◌, nat_lt, cond, arith}
+use Rattle.std.proofs.Common.{◌≡◌, ℕ, ◌+◌, Bool, true, false, not, ◌&&◌, List, [], ◌∷◌, Option, Some, None, is_none, length, refl, sym, ap, ◌∙◌, nat_lt, cond, arith}
 use Rattle.std.proofs.lemmas.Bool.Decides.{nat_tests}
 use Rattle.std.specs.List.{list_all, position_or_len}
 use Rattle.frag_rules.specs.Bodies.{misfit}

@@ -4,7 +4,7 @@ use Rattle.std.specs.List.{list_all, list_any}
 use Rattle.pac_base.specs.Widths.{bits_of}
 use Rattle.frag_tree.specs.declared.krate.Version.{Version}
 use Rattle.frag_tree.specs.declared.register.RegisterModule.{RegisterModule}
-use Rattle.frag_tree.specs.Trees.{BlockTree, CrateTree}
+use Rattle.frag_tree.specs.Trees.{BlockTree}
 use Rattle.frag_sem.specs.CrateTyping.{TypingKind, block_names_differ, body_has_members, body_types, constants_of, double_name, is_free, is_marker, is_module, literal_range, names_field, names_module, read_fits, register_constants_fit, register_names_differ, register_names_free, spots_have_members, type_has_members, unknown_name, values_fit, write_fits, wrong_type}
 use Rattle.frag_sem.specs.Modules.{are_distinct_names, top_block}
 use Rattle.frag_sem.specs.PreludeWords.{same_truth}

@@ -100,10 +100,7 @@ fn body_leads(fields: &Named<'_, &StructField>, body: &Body) -> bool
     }
 }
 
-fn body_leading_nowhere(
-    fields: &Named<'_, &StructField>,
-    accessors: &[Access],
-) -> Option<usize>
+fn body_leading_nowhere(fields: &Named<'_, &StructField>, accessors: &[Access]) -> Option<usize>
     ensures { result ≡ misfit (λ access. body_leads (named_in fields.now) access.body) accessors.now }
 {
     accessors
@@ -116,10 +113,7 @@ fn body_fields(alloc: Global, block: &Block) -> Result<Option<usize>, NoMemory>
     ensures { IfOk result (λ item. is_none item ≡ block_test BlockRule.BodyFields Version.One (block_tree block.now)) }
 {
     let fields = by_name(alloc, fields_of(block))?;
-    Ok(accessor_item(
-        block,
-        body_leading_nowhere(&fields, accessors_of(block)),
-    ))
+    Ok(accessor_item(block, body_leading_nowhere(&fields, accessors_of(block))))
 }
 
 /// Whether both elements name one module.
@@ -179,10 +173,7 @@ fn body_fits(fields: &Named<'_, &StructField>, access: &Access) -> bool
     }
 }
 
-fn body_of_other_type(
-    fields: &Named<'_, &StructField>,
-    accessors: &[Access],
-) -> Option<usize>
+fn body_of_other_type(fields: &Named<'_, &StructField>, accessors: &[Access]) -> Option<usize>
     ensures { result ≡ misfit (λ access. body_fits (named_in fields.now) access access.body) accessors.now }
 {
     accessors
@@ -195,10 +186,7 @@ fn body_types(alloc: Global, block: &Block) -> Result<Option<usize>, NoMemory>
     ensures { IfOk result (λ item. is_none item ≡ block_test BlockRule.BodyTypes Version.One (block_tree block.now)) }
 {
     let fields = by_name(alloc, fields_of(block))?;
-    Ok(accessor_item(
-        block,
-        body_of_other_type(&fields, accessors_of(block)),
-    ))
+    Ok(accessor_item(block, body_of_other_type(&fields, accessors_of(block))))
 }
 
 fn type_has_members(holds: &FieldType) -> bool

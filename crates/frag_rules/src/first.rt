@@ -77,12 +77,7 @@ fn registers_break(
 ) -> Result<Option<usize>, NoMemory>
     ensures { IfOk result (λ item. is_none item ≡ registers_keep rule (laid_in parts.now)) }
 {
-    in_registers(
-        alloc,
-        rule,
-        parts.krate.version,
-        parts.registers.as_slice(),
-    )
+    in_registers(alloc, rule, parts.krate.version, parts.registers.as_slice())
 }
 
 /// The first item of blocks and register modules that breaks a rule on both.
@@ -180,11 +175,7 @@ fn item_breaking(alloc: Global, rule: Rule, parts: &Parts<'_>) -> Result<Option<
 }
 
 /// The first of the rules that a crate breaks.
-fn first_of(
-    alloc: Global,
-    parts: &Parts<'_>,
-    rules: &[Rule],
-) -> Result<Option<Broken>, NoMemory>
+fn first_of(alloc: Global, parts: &Parts<'_>, rules: &[Rule]) -> Result<Option<Broken>, NoMemory>
     ensures { IfOk result (λ found. option_map (λ broken. rule_kind broken.rule) found ≡ first_failed (map (tested (laid_in parts.now)) rules.now)) }
 {
     let mut rest = rules;

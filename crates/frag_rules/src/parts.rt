@@ -163,8 +163,5 @@ fn items_at(module: &Module) -> usize {
 
 /// How many items a block module is, with all that is inside it.
 pub(crate) fn items_of_block(block: &Block) -> usize {
-    own_items(block).saturating_add(items_before(
-        block.modules.as_slice(),
-        block.modules.len(),
-    ))
+    own_items(block).saturating_add(items_before(block.modules.as_slice(), block.modules.len()))
 }

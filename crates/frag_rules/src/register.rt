@@ -60,10 +60,7 @@ fn writer_item(unit: &RegisterModule, writer: Option<usize>) -> Option<usize>
 {
     let readers = readers_of(unit).len();
     behind(
-        unit.markers
-            .len()
-            .saturating_add(readers)
-            .saturating_add(1),
+        unit.markers.len().saturating_add(readers).saturating_add(1),
         writer,
     )
 }
@@ -196,10 +193,7 @@ fn constants_fit(unit: &RegisterModule) -> bool
     }
 }
 
-fn reader_without_marker(
-    markers: &Named<'_, &Identifier>,
-    readers: &[Reader],
-) -> Option<usize>
+fn reader_without_marker(markers: &Named<'_, &Identifier>, readers: &[Reader]) -> Option<usize>
     ensures { result ≡ misfit (λ reader. is_some (named_in markers.now reader.marker)) readers.now }
 {
     readers
@@ -207,10 +201,7 @@ fn reader_without_marker(
         .position(|reader| !markers.get(reader.marker.bytes()).is_some())
 }
 
-fn writer_without_marker(
-    markers: &Named<'_, &Identifier>,
-    writers: &[Writer],
-) -> Option<usize>
+fn writer_without_marker(markers: &Named<'_, &Identifier>, writers: &[Writer]) -> Option<usize>
     ensures { result ≡ misfit (λ writer. is_some (named_in markers.now writer.marker)) writers.now }
 {
     writers
@@ -223,10 +214,7 @@ fn reader_markers(alloc: Global, unit: &RegisterModule) -> Result<Option<usize>,
     ensures { IfOk result (λ item. is_none item ≡ register_test RegisterRule.ReaderMarkers Version.One unit.now) }
 {
     let markers = by_name(alloc, unit.markers.as_slice())?;
-    Ok(reader_item(
-        unit,
-        reader_without_marker(&markers, readers_of(unit)),
-    ))
+    Ok(reader_item(unit, reader_without_marker(&markers, readers_of(unit))))
 }
 
 /// The first writer whose marker isn't declared.
@@ -234,10 +222,7 @@ fn writer_markers(alloc: Global, unit: &RegisterModule) -> Result<Option<usize>,
     ensures { IfOk result (λ item. is_none item ≡ register_test RegisterRule.WriterMarkers Version.One unit.now) }
 {
     let markers = by_name(alloc, unit.markers.as_slice())?;
-    Ok(writer_item(
-        unit,
-        writer_without_marker(&markers, writers_of(unit)),
-    ))
+    Ok(writer_item(unit, writer_without_marker(&markers, writers_of(unit))))
 }
 
 /// The lowest bit of the last member, or the greatest number where it lies behind that.

@@ -122,9 +122,8 @@ impl<'a> TypeKey<'a> {
             (TypeKey::BitWriter(kind, one), TypeKey::BitWriter(also, other)) => {
                 kind == also && one == other
             }
-            (TypeKey::FieldWriter(one, width, bits), TypeKey::FieldWriter(other, also, as_many)) => {
-                one == other && (width == also && bits == as_many)
-            }
+            (TypeKey::FieldWriter(one, width, bits), TypeKey::FieldWriter(other, also, as_many)) =>
+                { one == other && (width == also && bits == as_many) }
             _ => false,
         }
     }
@@ -219,17 +218,13 @@ fn values_fit(block: &Values) -> bool
 fn truths_free(version: Version, calls: &[TruthCall]) -> bool
     ensures { result ≡ list_all (λ call. is_free version call.name) calls.now }
 {
-    calls
-        .iter()
-        .all(|call| is_free(version, call.name.bytes()))
+    calls.iter().all(|call| is_free(version, call.name.bytes()))
 }
 
 fn numbers_free(version: Version, calls: &[NumberCall]) -> bool
     ensures { result ≡ list_all (λ call. is_free version call.name) calls.now }
 {
-    calls
-        .iter()
-        .all(|call| is_free(version, call.name.bytes()))
+    calls.iter().all(|call| is_free(version, call.name.bytes()))
 }
 
 fn both(one: bool, other: bool) -> bool
@@ -375,10 +370,7 @@ fn push_calls<'a>(calls: &mut Vec<CallKey<'a>>, block: &'a Values) -> Result<(),
 }
 
 /// The calls of all values of a register, each with the type on which it stands.
-fn calls_of<'a>(
-    alloc: Global,
-    unit: &'a RegisterModule,
-) -> Result<Vec<CallKey<'a>>, NoMemory>
+fn calls_of<'a>(alloc: Global, unit: &'a RegisterModule) -> Result<Vec<CallKey<'a>>, NoMemory>
     ensures { IfOk result (λ calls. map call_seen calls.items ≡ map call_key (value_calls unit.now)) }
 {
     let mut calls = Vec::new(alloc);
@@ -391,10 +383,7 @@ fn calls_of<'a>(
 }
 
 /// Keeps the call, and says whether it is new.
-fn is_new_call<'a>(
-    seen: &mut IndexSet<CallKey<'a>>,
-    call: CallKey<'a>,
-) -> Result<bool, NoMemory>
+fn is_new_call<'a>(seen: &mut IndexSet<CallKey<'a>>, call: CallKey<'a>) -> Result<bool, NoMemory>
     ensures new { IfOk result (λ fresh. fresh ≡ not (list_any (same_call_key (call_seen call.entry)) (calls_seen seen.old))) }
     ensures kept { IfOk result (λ fresh. fresh ≡ true → calls_seen seen.new ≡ calls_seen seen.old ++ call_seen call.entry ∷ []) }
 {

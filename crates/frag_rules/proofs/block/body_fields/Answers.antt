@@ -1,13 +1,11 @@
-use Rattle.std.proofs.Common.{◌≡◌, ◌&&◌, is_none, refl, sym, ap, ap₂, ◌∙◌}
+use Rattle.std.proofs.Common.{ap, ◌∙◌}
 use Rattle.frag_sem.specs.CallPlaces.{field_named}
-use Rattle.frag_sem.specs.CrateTyping.{body_has_members, body_types, is_free, is_module, names_field, names_module, type_has_members}
+use Rattle.frag_sem.specs.CrateTyping.{names_field}
 use Rattle.frag_tree.specs.Trees.{block_tree}
 use Rattle.frag_rules.specs.Rules.{block_test}
-use Rattle.frag_rules.specs.Bodies.{body_fits, body_leads, type_leads}
-use Rattle.frag_rules.specs.Insides.{found_inside}
+use Rattle.frag_rules.specs.Bodies.{body_leads}
 use Rattle.frag_rules.specs.Naming.{named_in}
-use Rattle.std.specs.Prelude.{is_some}
-use Rattle.frag_rules.proofs.BlockTests.{body-fits, body-leads, is-module, type-leads}
+use Rattle.frag_rules.proofs.BlockTests.{body-leads}
 use Rattle.frag_rules.proofs.Misfits.{no-misfit}
 use Rattle.frag_rules.proofs.block.body_fields.Goals as goal
 

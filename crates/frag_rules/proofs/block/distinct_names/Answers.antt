@@ -1,4 +1,4 @@
-use Rattle.std.proofs.Common.{◌≡◌, ◌&&◌, is_none, map, Bool, true, false, refl, sym, ap, ap₂, ◌∙◌}
+use Rattle.std.proofs.Common.{◌&&◌, map, ap, ap₂, ◌∙◌}
 use Rattle.frag_sem.specs.CrateTyping.{module_names}
 use Rattle.frag_sem.specs.Modules.{are_distinct_names}
 use Rattle.frag_tree.specs.Trees.{block_tree}

@@ -1,8 +1,7 @@
-use Rattle.std.proofs.Common.{ap, ap₂, sym, ◌∙◌, map, ◌≡◌, option_map}
-use Rattle.frag_sem.specs.CrateTyping.{first_failed, tests}
+use Rattle.std.proofs.Common.{ap, ap₂, ◌∙◌, map}
+use Rattle.frag_sem.specs.CrateTyping.{first_failed}
 use Rattle.frag_tree.specs.Trees.{crate_tree}
-use Rattle.frag_rules.specs.Parts.{laid_in}
-use Rattle.frag_rules.specs.Rules.{rule_kind, tested}
+use Rattle.frag_rules.specs.Rules.{tested}
 use Rattle.frag_rules.proofs.Firsts.{all-tests}
 use Rattle.frag_rules.proofs.Insides.{if_ok}
 use Rattle.frag_rules.proofs.first.first_broken.Goals as goal

@@ -1,4 +1,4 @@
-use Rattle.std.proofs.Common.{◌∙◌, sym}
+use Rattle.std.proofs.Common.{◌∙◌}
 use Rattle.frag_rules.specs.Parts.{laid_in}
 use Rattle.frag_rules.proofs.ByName.{none-left}
 use Rattle.frag_rules.proofs.Firsts.{broken-first, kept-first, none-first}

@@ -1,4 +1,4 @@
-use Rattle.std.proofs.Common.{◌+◌, arith, drop, map, ap, sym, ◌∙◌}
+use Rattle.std.proofs.Common.{◌+◌, arith, drop, map, ap, ◌∙◌}
 use Rattle.frag_tree.specs.Trees.{block_tree}
 use Rattle.frag_rules.specs.Rules.{block_test}
 use Rattle.frag_rules.proofs.Distinct.{drop-at, drop-end}

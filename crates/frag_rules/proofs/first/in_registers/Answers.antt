@@ -1,5 +1,4 @@
-use Rattle.std.proofs.Common.{◌+◌, arith, drop, map, ap, sym, ◌∙◌}
-use Rattle.frag_tree.specs.Trees.{block_tree}
+use Rattle.std.proofs.Common.{◌+◌, arith, drop, map, ap, ◌∙◌}
 use Rattle.frag_rules.specs.Rules.{register_test}
 use Rattle.frag_rules.proofs.Distinct.{drop-at, drop-end}
 use Rattle.frag_rules.proofs.Misfits.{found-done, found-more}

@@ -1,6 +1,5 @@
 use Rattle.std.proofs.Common.{◌≡◌, ◌&&◌, drop, is_none, map}
 use Rattle.std.specs.List.{list_all}
-use Rattle.frag_tree.specs.Trees.{block_tree}
 use Rattle.frag_rules.specs.Rules.{register_test}
 use Rattle.frag_rules.proofs.first.in_registers.Given as goal
 

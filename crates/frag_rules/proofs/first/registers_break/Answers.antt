@@ -1,6 +1,6 @@
 use Rattle.std.proofs.Common.{ap, map, ◌∙◌}
 use Rattle.std.specs.List.{list_all}
-use Rattle.frag_tree.specs.Trees.{block_tree, crate_tree}
+use Rattle.frag_tree.specs.Trees.{crate_tree}
 use Rattle.frag_rules.specs.Rules.{register_test}
 use Rattle.frag_rules.proofs.Insides.{if_ok}
 use Rattle.frag_rules.proofs.first.registers_break.Goals as goal

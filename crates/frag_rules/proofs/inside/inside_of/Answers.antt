@@ -1,4 +1,4 @@
-use Rattle.std.proofs.Common.{sym, ap, ◌∙◌, refl, Option, Some, None, option_map, ◌≡◌}
+use Rattle.std.proofs.Common.{◌∙◌, refl, Option, Some, None, option_map, ◌≡◌}
 use Rattle.frag_rules.specs.Insides.{found_inside, is_there}
 use Rattle.frag_rules.proofs.ByName.{none-left}
 use Rattle.frag_rules.proofs.Insides.{knows-begin, knows-done, knows-more}

@@ -1,6 +1,4 @@
-use Rattle.std.proofs.Common.{◌≡◌, ap, ap₂, ◌∙◌, sym, List, [], map}
-use Rattle.frag_tree.specs.Trees.{block_tree, crate_tree}
-use Rattle.frag_rules.proofs.Gathering.{tops-begin, with_tops}
+use Rattle.frag_rules.proofs.Gathering.{tops-begin}
 use Rattle.frag_rules.proofs.parts.laid_out.Goals as goal
 
 pub loop-first-init : goal.loop-first-init

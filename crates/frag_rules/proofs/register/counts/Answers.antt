@@ -1,11 +1,7 @@
-use Rattle.std.proofs.Common.{◌≡◌, ◌&&◌, is_none, is_some, refl, sym, ap, ap₂, ◌∙◌}
-use Rattle.pac_base.specs.Widths.{bits_of}
-use Rattle.frag_sem.specs.CrateTyping.{is_free, is_marker, read_fits, write_fits}
+use Rattle.std.proofs.Common.{◌&&◌, refl, ap₂, ◌∙◌}
 use Rattle.frag_sem.specs.Spots.{read_spot, spot_has_members, write_spot}
-use Rattle.frag_rules.specs.Naming.{named_in}
 use Rattle.frag_rules.specs.Rules.{register_test}
 use Rattle.frag_rules.proofs.Misfits.{no-misfit}
-use Rattle.frag_rules.proofs.RegisterTests.{is-declared}
 use Rattle.frag_rules.proofs.register.counts.Goals as goal
 
 pub returns : goal.returns

@@ -1,4 +1,4 @@
-use Rattle.std.proofs.Common.{◌≡◌, ◌&&◌, map, sym, ap, ap₂, ◌∙◌}
+use Rattle.std.proofs.Common.{◌&&◌, map, ap, ap₂, ◌∙◌}
 use Rattle.frag_sem.specs.Modules.{are_distinct_names}
 use Rattle.frag_rules.specs.Rules.{register_test}
 use Rattle.frag_rules.proofs.RegisterTests.{same}

@@ -1,7 +1,5 @@
-use Rattle.std.proofs.Common.{◌≡◌, ◌&&◌, is_none, is_some, refl, sym, ap, ap₂, ◌∙◌}
-use Rattle.pac_base.specs.Widths.{bits_of}
-use Rattle.frag_sem.specs.CrateTyping.{is_free, is_marker, read_fits, write_fits}
-use Rattle.frag_sem.specs.Spots.{read_spot, spot_has_members, write_spot}
+use Rattle.std.proofs.Common.{is_some}
+use Rattle.frag_sem.specs.CrateTyping.{is_marker}
 use Rattle.frag_rules.specs.Naming.{named_in}
 use Rattle.frag_rules.specs.Rules.{register_test}
 use Rattle.frag_rules.proofs.Misfits.{no-misfit}

@@ -1,4 +1,4 @@
-use Rattle.std.proofs.Common.{sym, ap, ◌∙◌, map, List, [], ◌++◌, refl}
+use Rattle.std.proofs.Common.{sym, ap, ◌∙◌, map, ◌++◌, refl}
 use Rattle.std.proofs.lemmas.List.{append-nil}
 use Rattle.std.specs.List.{flat_map}
 use Rattle.frag_rules.specs.Keys.{call_key, call_seen, calls_on}

@@ -1,4 +1,4 @@
-use Rattle.std.proofs.Common.{sym, ap, ap₂, ◌∙◌, ◌||◌}
+use Rattle.std.proofs.Common.{ap₂, ◌∙◌, ◌||◌}
 use Rattle.frag_rules.proofs.Keys.{is-typed}
 use Rattle.frag_rules.proofs.values.is_typed.Goals as goal
 

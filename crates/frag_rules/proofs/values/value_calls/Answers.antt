@@ -1,4 +1,4 @@
-use Rattle.std.proofs.Common.{sym, ap, ◌∙◌, map}
+use Rattle.std.proofs.Common.{ap, ◌∙◌, map}
 use Rattle.frag_sem.specs.CrateTyping.{value_calls}
 use Rattle.frag_sem.specs.Modules.{are_distinct}
 use Rattle.frag_rules.specs.Keys.{call_seen, same_call_key}

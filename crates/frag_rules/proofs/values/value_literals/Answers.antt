@@ -1,7 +1,5 @@
-use Rattle.std.proofs.Common.{Some, None, is_none, refl, sym, ap, ◌∙◌}
-use Rattle.std.specs.List.{list_all}
-use Rattle.frag_sem.specs.CrateTyping.{is_free, values_fit}
-use Rattle.frag_sem.specs.ProxyTypes.{value_names}
+use Rattle.std.proofs.Common.{Some, None, is_none, refl, sym, ap}
+use Rattle.frag_sem.specs.CrateTyping.{values_fit}
 use Rattle.frag_rules.specs.Rules.{register_test}
 use Rattle.frag_rules.proofs.Misfits.{no-misfit}
 use Rattle.frag_rules.proofs.values.value_literals.Goals as goal

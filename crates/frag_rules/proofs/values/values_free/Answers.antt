@@ -1,4 +1,4 @@
-use Rattle.std.proofs.Common.{sym, ap, ap₂, ◌∙◌, ◌&&◌}
+use Rattle.std.proofs.Common.{ap, ap₂, ◌∙◌, ◌&&◌}
 use Rattle.std.specs.List.{list_all}
 use Rattle.frag_sem.specs.CrateTyping.{is_free}
 use Rattle.frag_sem.specs.ProxyTypes.{number_calls, truth_calls}

@@ -1,5 +1,5 @@
 use Rattle.std.proofs.Common.{sym, ap, ◌∙◌}
-use Rattle.frag_tree.specs.Trees.{block_tree, module_tree}
+use Rattle.frag_tree.specs.Trees.{module_tree}
 use Rattle.frag_tree.proofs.Trees.{block_tree-is, module_tree-block, module_tree-register}
 use Rattle.frag_rules.proofs.Insides.{if_ok, kept-block, kept-register}
 use Rattle.frag_rules.proofs.inside.Inside.keep.Goals as goal
