@@ -33,7 +33,7 @@ block-more old mid unit inside first same =
 abbrev pub with_rest : Laid → List Module → Laid
 with_rest laid modules = with_more laid (blocks_in (in_line (map module_tree modules))) (registers_in (in_line (map module_tree modules)))
 
-first-blocks : (part : ModuleTree) (others : Modules) → blocks_in (before part others) ≡ blocks_at part ++ blocks_in others
+pub first-blocks : (part : ModuleTree) (others : Modules) → blocks_in (before part others) ≡ blocks_at part ++ blocks_in others
 unfolding blocks_in
 first-blocks (one_register unit) others = refl
 first-blocks (one_block unit) others = refl

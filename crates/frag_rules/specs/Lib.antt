@@ -4,6 +4,7 @@ pub mod Gathering
 pub mod Held
 pub mod Insides
 pub mod Keys
+pub mod Measures
 pub mod Naming
 pub mod Parts
 pub mod Rules

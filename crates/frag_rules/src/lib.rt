@@ -3,8 +3,11 @@
 #![tactic(auto)]
 
 mod block;
+mod extent;
 mod first;
 mod inside;
+mod layout;
+mod measure;
 mod named;
 mod parts;
 mod place;
