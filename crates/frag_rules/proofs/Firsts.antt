@@ -2,6 +2,7 @@
 use Rattle.std.proofs.Common.{◌≡◌, ℕ, Bool, true, false, List, [], ◌∷◌, map, find, Option, Some, None, is_none, is_some, refl, sym, ap, ◌∙◌, if◌then◌else◌}
 use Rattle.std.specs.Borrow.{Bor}
 use Rattle.std.specs.Str.{bytes_eq}
+use Rattle.frag_sem.specs.AddressEnds.{all_tests}
 use Rattle.frag_sem.specs.CrateTyping.{bodies_fit, bodies_name_fields, constants_fit, constants_have_type, counts_are_some, directions_agree, first_failed, names_are_free, names_differ, paths_lead, reader_markers, reader_places, slots_lead, tests, value_literals, value_types, writer_markers, writer_places}
 use Rattle.frag_sem.specs.Modules.{top_block}
 use Rattle.frag_tree.specs.declared.block.Block.{Block}
@@ -11,8 +12,8 @@ use Rattle.frag_rules.specs.Naming.{FindsFirst, named_in}
 use Rattle.frag_rules.specs.Parts.{Laid, laid_out}
 use Rattle.frag_rules.specs.Rules.{all_rules, block_test, register_test, rule_kind, rule_test, tested}
 
-pub all-tests : (krate : CrateTree) → map (tested (laid_out krate)) all_rules ≡ tests krate
-unfolding all_rules rule_test block_test register_test tests names_differ slots_lead paths_lead bodies_name_fields bodies_fit counts_are_some constants_have_type constants_fit reader_markers reader_places writer_markers writer_places value_types value_literals names_are_free directions_agree
+pub all-tests : (krate : CrateTree) → map (tested (laid_out krate)) all_rules ≡ all_tests krate
+unfolding all_rules rule_test block_test register_test all_tests tests names_differ slots_lead paths_lead bodies_name_fields bodies_fit counts_are_some constants_have_type constants_fit reader_markers reader_places writer_markers writer_places value_types value_literals names_are_free directions_agree
 all-tests krate = refl
 
 pub kept-first : (laid : Laid) (all others : List Rule) (first : Rule) (item : Option ℕ) → all ≡ first ∷ others → item ≡ None → is_none item ≡ rule_test first laid

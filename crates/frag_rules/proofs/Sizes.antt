@@ -125,3 +125,16 @@ tops-known tops large first_large left all is before name =
 
 pub tops-sized : (tops : List (List ℕ × Measure)) (large first_large : Option ℕ) (left all : List Block) → left ≡ [] → TopsSoFar tops large first_large left all → is_none large ≡ none_large_top first_large all
 tops-sized tops large first_large left all is before = and-true (is_none large) ∙ (ap (none_large_top large) (sym is) ∙ before.sizes)
+
+pub tops-first : (tops : List (List ℕ × Measure)) (large : Option ℕ) (left all : List Block) → tops ≡ [] → left ≡ all → TopsSoFar tops large large left all
+tops-first tops large left all none same = record {
+  knows = λ name. ap₂ (λ held blocks. option_or (option_map measure_seen (lookup (bytes_eq name) held)) (option_map block_measured (top_block name (map block_tree blocks)))) none same;
+  sizes = ap (none_large_top large) same;
+}
+
+-- in the order of the definition
+pub sizes-first : (slots sizes : Bool) → (slots && sizes) ≡ (sizes && slots)
+sizes-first true true = refl
+sizes-first true false = refl
+sizes-first false true = refl
+sizes-first false false = refl

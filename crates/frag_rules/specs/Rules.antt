@@ -5,7 +5,8 @@ use Rattle.pac_base.specs.Widths.{bits_of}
 use Rattle.frag_tree.specs.declared.krate.Version.{Version}
 use Rattle.frag_tree.specs.declared.register.RegisterModule.{RegisterModule}
 use Rattle.frag_tree.specs.Trees.{BlockTree}
-use Rattle.frag_sem.specs.CrateTyping.{TypingKind, block_names_differ, body_has_members, body_types, constants_of, double_name, is_free, is_marker, is_module, literal_range, names_field, names_module, read_fits, register_constants_fit, register_names_differ, register_names_free, spots_have_members, type_has_members, unknown_name, values_fit, write_fits, wrong_type}
+use Rattle.frag_sem.specs.AddressEnds.{addresses_fit}
+use Rattle.frag_sem.specs.CrateTyping.{TypingKind, block_names_differ, body_has_members, body_types, constants_of, double_name, is_free, is_marker, is_module, literal_range, names_field, names_module, read_fits, register_constants_fit, register_names_differ, register_names_free, spots_have_members, too_large, type_has_members, unknown_name, values_fit, write_fits, wrong_type}
 use Rattle.frag_sem.specs.Modules.{are_distinct_names, top_block}
 use Rattle.frag_sem.specs.PreludeWords.{same_truth}
 use Rattle.frag_sem.specs.ProxyTypes.{readers_of, same_type, same_width, types_of, values_type, writers_of}
@@ -22,7 +23,7 @@ unfoldable pub all_rules : List Rule
 all_rules =
     rule.DistinctNames ∷ rule.SlotModules ∷ rule.ModulePaths ∷ rule.BodyFields ∷ rule.BodyTypes ∷ rule.Counts ∷
     rule.ConstantTypes ∷ rule.ConstantValues ∷ rule.ReaderMarkers ∷ rule.ReaderPlaces ∷ rule.WriterMarkers ∷ rule.WriterPlaces ∷
-    rule.ValueTypes ∷ rule.ValueLiterals ∷ rule.PreludeNames ∷ rule.Directions ∷ []
+    rule.ValueTypes ∷ rule.ValueLiterals ∷ rule.PreludeNames ∷ rule.Directions ∷ rule.AddressRange ∷ []
 
 -- the kind of the fault where a rule is broken
 abbrev pub rule_kind : Rule → TypingKind
@@ -42,6 +43,7 @@ rule_kind rule.ValueTypes = unknown_name
 rule_kind rule.ValueLiterals = literal_range
 rule_kind rule.PreludeNames = double_name
 rule_kind rule.Directions = wrong_type
+rule_kind rule.AddressRange = too_large
 
 -- a block keeps a rule
 unfoldable pub block_test : BlockRule → Version → BlockTree → Bool
@@ -96,6 +98,7 @@ rule_test rule.ValueTypes laid = registers_keep register_rule.ValueTypes laid
 rule_test rule.ValueLiterals laid = registers_keep register_rule.ValueLiterals laid
 rule_test rule.PreludeNames laid = blocks_keep block_rule.PreludeNames laid && registers_keep register_rule.PreludeNames laid
 rule_test rule.Directions laid = registers_keep register_rule.Directions laid
+rule_test rule.AddressRange laid = addresses_fit laid.tree
 
 -- a rule with the kind of its fault, and whether a crate keeps it
 abbrev pub tested : Laid → Rule → Bool × TypingKind

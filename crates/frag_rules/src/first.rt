@@ -1,6 +1,7 @@
 ghost use Rattle.std.specs.Prelude.{◌≡◌, ◌&&◌, IfOk, is_none, is_some, map, option_map};
 ghost use Rattle.std.specs.List.{list_all};
-ghost use Rattle.frag_sem.specs.CrateTyping.{first_failed, tests};
+ghost use Rattle.frag_sem.specs.AddressEnds.{all_tests};
+ghost use Rattle.frag_sem.specs.CrateTyping.{first_failed};
 ghost use Rattle.frag_sem.specs.Modules.{are_distinct_names, top_block};
 ghost use Rattle.frag_tree.specs.Trees.{block_tree, crate_tree};
 ghost use Rattle.frag_rules.specs.Bodies.{misfit};
@@ -12,6 +13,7 @@ use crate::block::broken_in_block;
 use crate::named::{Named, by_name, first_again};
 use crate::parts::{Listed, Parts, items_of_block, laid_out};
 use crate::place::{behind, earlier};
+use crate::range::out_of_range;
 use crate::register::broken_in_register;
 use crate::rule::{BlockRule, RegisterRule, Rule, all_rules};
 use frag_tree::{Block, Crate, RegisterModule, Slot, Version};
@@ -171,6 +173,7 @@ fn item_breaking(alloc: Global, rule: Rule, parts: &Parts<'_>) -> Result<Option<
             parts,
         ),
         Rule::Directions => registers_break(alloc, RegisterRule::Directions, parts),
+        Rule::AddressRange => out_of_range(alloc, parts.krate),
     }
 }
 
@@ -188,11 +191,10 @@ fn first_of(alloc: Global, parts: &Parts<'_>, rules: &[Rule]) -> Result<Option<B
     Ok(None)
 }
 
-/// The first of all rules but that of the address range that a crate breaks, and the first item that breaks it. The
-/// kind of the fault is that of the first test that fails anywhere in the crate; want of memory is the one other
-/// answer.
+/// The first of all rules that a crate breaks, and the first item that breaks it. The kind of the fault
+/// is that of the first test that fails anywhere in the crate; want of memory is the one other answer.
 pub fn first_broken(alloc: Global, krate: &Crate) -> Result<Option<Broken>, NoMemory>
-    ensures { IfOk result (λ found. option_map (λ broken. rule_kind broken.rule) found ≡ first_failed (tests (crate_tree krate.now))) }
+    ensures { IfOk result (λ found. option_map (λ broken. rule_kind broken.rule) found ≡ first_failed (all_tests (crate_tree krate.now))) }
 {
     let parts = laid_out(alloc, krate)?;
     first_of(alloc, &parts, &all_rules())

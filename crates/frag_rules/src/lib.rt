@@ -12,6 +12,7 @@ mod named;
 mod parts;
 mod place;
 mod prelude;
+mod range;
 mod register;
 mod rule;
 mod values;

@@ -1,7 +1,7 @@
 ghost use Rattle.std.specs.Prelude.{◌≡◌};
 ghost use Rattle.frag_rules.specs.Rules.{all_rules};
 
-/// The typing rules of crate texts but that of the address range, in their order. Where a rule has two kinds of
+/// The typing rules of crate texts, in their order. Where a rule has two kinds of
 /// faults, each is a rule here.
 #[derive(Clone, Copy, Debug, PartialEq, Eq)]
 pub enum Rule {
@@ -38,11 +38,13 @@ pub enum Rule {
     PreludeNames,
     /// Readers stand exactly where the register is readable, and writers exactly where it is writable.
     Directions,
+    /// Every block's size is at most 2^64, and so is the end of each register.
+    AddressRange,
 }
 
 /// All rules in their order.
 #[tactic(auto, unfolding(crate::specs::Rules::all_rules))]
-pub(crate) fn all_rules() -> [Rule; 16]
+pub(crate) fn all_rules() -> [Rule; 17]
     ensures { result ≡ all_rules }
 {
     [
@@ -62,6 +64,7 @@ pub(crate) fn all_rules() -> [Rule; 16]
         Rule::ValueLiterals,
         Rule::PreludeNames,
         Rule::Directions,
+        Rule::AddressRange,
     ]
 }
 

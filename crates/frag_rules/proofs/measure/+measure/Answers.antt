@@ -1,4 +1,4 @@
-use Rattle.std.proofs.Common.{◌≡◌, ◌&&◌, ◌+◌, drop, is_none, map, sym, ap, ◌∙◌, subst, arith}
+use Rattle.std.proofs.Common.{◌≡◌, ◌&&◌, ◌+◌, drop, is_none, map, IfOk, refl, sym, ap, ◌∙◌, subst, arith}
 use Rattle.std.specs.List.{list_all}
 use Rattle.frag_tree.specs.Trees.{ModuleTree, Modules, block_tree, in_line, module_tree}
 use Rattle.frag_tree.proofs.Trees.{block_tree-is, module_tree-block, module_tree-register}
@@ -33,3 +33,26 @@ measure_modules-returns-clause-measure t c =
 pub measure_modules-returns-clause-sizes : goal.measure_modules-returns-clause-sizes
 measure_modules-returns-clause-sizes t c =
     all-sized c.loop-unit.inside c.loop-unit.sizes.large c.args.sizes.now.large (drop c.loop-unit.unit-index c.args.modules.now) c.args.modules.now (drop-end c.args.modules.now c.loop-unit.unit-index (omega arith)) c.loop-unit.invariant
+
+pub measure_modules-loop-unit-init : goal.measure_modules-loop-unit-init
+measure_modules-loop-unit-init t c = record {
+  knows = knows-begin measure_seen measured c.new-inside.result c.args.modules.now c.new-inside.ensures;
+  sizes = refl;
+}
+
+pub measure_module-returns-in-Block-clause-measure : goal.measure_module-returns-in-Block-clause-measure
+measure_module-returns-in-Block-clause-measure t c =
+    subst (λ (tree : ModuleTree). IfOk c.measure_block.result (λ measure. measure_seen measure ≡ measured tree)) (sym (ap module_tree c.in-Block.is ∙ module_tree-block c.in-Block.block)) c.measure_block.ensures.measure
+
+pub measure_module-returns-in-Block-clause-sizes : goal.measure_module-returns-in-Block-clause-sizes
+measure_module-returns-in-Block-clause-sizes t c =
+    subst (λ (tree : ModuleTree). IfOk c.measure_block.result (λ measure. is_none c.measure_block.new.sizes.large ≡ (is_none c.args.sizes.now.large && list_all size_fits (blocks_at tree))))
+    (sym (ap module_tree c.in-Block.is ∙ module_tree-block c.in-Block.block)) c.measure_block.ensures.sizes
+
+pub measure_module-returns-in-Register-clause-measure : goal.measure_module-returns-in-Register-clause-measure
+measure_module-returns-in-Register-clause-measure t c = c.measure_register.ensures ∙ ap measured (sym (ap module_tree c.in-Register.is ∙ module_tree-register c.in-Register.register))
+
+pub measure_module-returns-in-Register-clause-sizes : goal.measure_module-returns-in-Register-clause-sizes
+measure_module-returns-in-Register-clause-sizes t c =
+    and-true (is_none c.args.sizes.now.large)
+    ∙ ap (λ (tree : ModuleTree). is_none c.args.sizes.now.large && list_all size_fits (blocks_at tree)) (sym (ap module_tree c.in-Register.is ∙ module_tree-register c.in-Register.register))
