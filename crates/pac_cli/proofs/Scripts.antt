@@ -241,29 +241,29 @@ others_executed command name run old new is h = subst (λ (c : Command). OthersS
 -- ---- a description
 
 -- a crate that fits is refused for want of memory alone
-pub only_memory : (tree : CrateTree) (fault : CrateFault) → CrateFits tree → IsCrateRefusal tree fault → of_typing fault ≡ Memory
-only_memory tree (krate.Syntax at) fits h = absurd h
-only_memory tree (krate.TooDeep at) fits h = absurd h
-only_memory tree (krate.Typing at kind) fits h = absurd (no_fault tree (crate_kind kind) fits h)
-only_memory tree krate.Memory fits h = refl
+pub only_memory : (made : CrateTree) (fault : CrateFault) → CrateFits made → IsCrateRefusal made fault → of_typing fault ≡ Memory
+only_memory made (krate.Syntax at) fits h = absurd h
+only_memory made (krate.TooDeep at) fits h = absurd h
+only_memory made (krate.Typing at kind) fits h = absurd (no_fault made (crate_kind kind) fits h)
+only_memory made krate.Memory fits h = refl
 
 -- a script does against a crate that stands for rows what it does against their register table
-same_plan : (rows : List (Row Step Key)) (tree : CrateTree) → StandsFor rows tree → text_plan tree ≡ table_plan rows
-same_plan rows tree stands = λ i text. record { presets = stands.presets text i; events = λ answers. stands.meaning text answers i; text = event_text }
+same_plan : (rows : List (Row Step Key)) (made : CrateTree) → StandsFor rows made → text_plan made ≡ table_plan rows
+same_plan rows made stands = λ i text. record { presets = stands.presets text i; events = λ answers. stands.meaning text answers i; text = event_text }
 
 -- a description that comes to no rows is refused
 pub stops_run : (source : SourceBytes) (bytes : List ℕ) (why : Unresolved) → ComeTo source (stopped why) → AnswersRun source bytes (refused (unresolved why))
 stops_run source bytes why comes = record { resolution = stopped why; comes = comes; answered = refl }
 
 -- so the answers of scripts against it are those of the description
-pub answers_run : (source : SourceBytes) (rows : List (Row Step Key)) (tree : CrateTree) (bytes : List ℕ) (answer : Answer) → ComeTo source (resolved rows) → StandsFor rows tree
-    → AnswersScript (text_surface tree) (text_plan tree) bytes answer → AnswersRun source bytes answer
-answers_run source rows tree bytes answer comes stands h = record {
+pub answers_run : (source : SourceBytes) (rows : List (Row Step Key)) (made : CrateTree) (bytes : List ℕ) (answer : Answer) → ComeTo source (resolved rows) → StandsFor rows made
+    → AnswersScript (text_surface made) (text_plan made) bytes answer → AnswersRun source bytes answer
+answers_run source rows made bytes answer comes stands h = record {
   resolution = resolved rows;
   comes = comes;
   answered =
       subst (λ (surface : Surface). AnswersScript surface (table_plan rows) bytes answer) stands.surface
-      (subst (λ (plan : Script → Plan). AnswersScript (text_surface tree) plan bytes answer) (same_plan rows tree stands) h);
+      (subst (λ (plan : Script → Plan). AnswersScript (text_surface made) plan bytes answer) (same_plan rows made stands) h);
 }
 
 -- running a script against the crate of a description is what the command decides
