@@ -1,9 +1,9 @@
 -- A walk through a device leaves what the command leaves of its flat rows.
-use Rattle.std.proofs.Common.{◌≡◌, ◌⊎◌, ◌≤◌, ℕ, Bool, List, map, IfOk, arith, Option, None, Result, Ok, Err, refl, sym, ap, ◌∙◌, inl, inr}
+use Rattle.std.proofs.Common.{◌≡◌, ◌≤◌, ℕ, Bool, List, map, IfOk, arith, Option, None, Result, Ok, Err, ap, ◌∙◌, inl, inr}
 use Rattle.patch_model.specs.Acts.{Order}
 use Rattle.patch_sem.specs.declared.fault.PatchFault.{PatchFault}
 use Rattle.patch_sem.specs.Patching.{applied, places_of}
-use Rattle.patch_sem.specs.Selecting.{Rows, selects}
+use Rattle.patch_sem.specs.Selecting.{selects}
 use Rattle.patch_sem.specs.Steps.{Outcome, ◌>>=◌}
 use Rattle.patch_edits.proofs.Contexts.{tree_with}
 use Rattle.patch_edits.proofs.Keeping.{Keeps, visited-distinct, visited-every}

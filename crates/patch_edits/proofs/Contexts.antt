@@ -15,14 +15,14 @@ use Rattle.svd_model.specs.Steps.{Step, same_step}
 use Rattle.svd_rows.proofs.Counting.{count-rows}
 use Rattle.svd_rows.proofs.Exchanging.{begins-behind, some_pass-agree, some_pass-map}
 use Rattle.svd_rows.proofs.Lists.{filter-map, filter_all, filter_none, map-map, map_agree}
-use Rattle.svd_rows.proofs.Passing.{exchanged-before, filter-none, filter-not_none, some_pass-append}
+use Rattle.svd_rows.proofs.Passing.{exchanged-before, filter-none, filter-not_none}
 use Rattle.svd_rows.proofs.Standing.{absent-rows}
 use Rattle.svd_rows.specs.Elements.{IsAbsent}
 use Rattle.svd_rows.specs.Forest.{Tree, leaf, node}
 use Rattle.svd_rows.specs.LookUps.{ends_with, inside, is_element_of, seen_below}
 use Rattle.svd_rows.specs.Paths.{begins, exactly, is_within}
 use Rattle.svd_rows.specs.RowEdits.{exchanged, some_pass}
-use Rattle.svd_rows.specs.Rows.{Row, Said, element, states, forest_rows, is_element, own, rows, under, under_path}
+use Rattle.svd_rows.specs.Rows.{Row, element, states, forest_rows, is_element, own, rows, under, under_path}
 
 abbrev pub tree_with : List Key → Below → Tree Step Key
 tree_with keys below = record { keys = keys; below = below }

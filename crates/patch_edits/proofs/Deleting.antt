@@ -1,13 +1,13 @@
 -- Opening and deleting in the tree are those among the rows.
-use Rattle.std.proofs.Common.{◌≡◌, ◌≢◌, ◌≤◌, ℕ, ◌+◌, Bool, true, false, cond, not, ◌||◌, List, [], ◌∷◌, ◌++◌, map, filter, length, Option, Some, None, Ok, Err, refl, sym, ap, ap₂, ◌∙◌, subst, arith}
+use Rattle.std.proofs.Common.{◌≡◌, ◌≢◌, ◌≤◌, ℕ, ◌+◌, Bool, true, false, cond, not, ◌||◌, List, [], ◌∷◌, map, filter, length, Option, Some, None, Ok, Err, refl, sym, ap, ap₂, ◌∙◌, subst, arith}
 use Rattle.std.proofs.lemmas.List.Elements.{filter_agree}
 use Rattle.std.specs.List.{list_any}
-use Rattle.patch_model.specs.Acts.{Order, PatternItems, deletes, opens}
-use Rattle.patch_sem.specs.declared.fault.PatchFault.{PatchFault}
+use Rattle.patch_model.specs.Acts.{PatternItems, deletes, opens}
 use Rattle.patch_sem.specs.declared.fault.PatchFault.TheVariants.{NoMatch}
-use Rattle.patch_sem.specs.Patching.{acted, deleting, done_at, opening}
+use Rattle.patch_sem.specs.Patching.{deleting, done_at, opening}
 use Rattle.patch_sem.specs.Selecting.{Rows, selects}
-use Rattle.patch_sem.specs.Steps.{Outcome, ◌>>=◌, unless_none}
+use Rattle.patch_sem.specs.Steps.{◌>>=◌, unless_none}
+use Rattle.patch_edits.proofs.Binds.{given}
 use Rattle.patch_edits.proofs.Contexts.{tree_with}
 use Rattle.glob_select.specs.Matching.{matches}
 use Rattle.patch_edits.proofs.EditedTrees.{item-selected}
@@ -30,11 +30,9 @@ use Rattle.svd_rows.proofs.Facts.{Every-without, IsDistinct-without}
 use Rattle.svd_rows.proofs.Lists.{filter-map, map-map}
 use Rattle.svd_rows.proofs.LookUps.{children_of-rows}
 use Rattle.svd_rows.proofs.Siblings.{steps-siblings, without-siblings}
-use Rattle.svd_rows.specs.Edits.{replaced, within, without_children}
+use Rattle.svd_rows.specs.Edits.{replaced, within}
 use Rattle.svd_rows.specs.Elements.{Every, IsDistinct, count}
-use Rattle.svd_rows.specs.Forest.{Forest, Tree, join, leaf, node, siblings, steps}
-use Rattle.svd_rows.specs.LookUps.{children_of}
-use Rattle.svd_rows.specs.RowEdits.{without}
+use Rattle.svd_rows.specs.Forest.{Tree, join, leaf, node, siblings, steps}
 use Rattle.svd_rows.specs.Rows.{rows}
 
 none-or : (line : ℕ) (xs : List Step) (made : Below) (give : Below → Rows) → unless_none line xs (Ok (give made)) ≡ (unless_none line xs (Ok made) >>= (λ new. Ok (give new)))
@@ -74,9 +72,6 @@ deletion-agrees line pattern parents (Some set) keys f distinct = deleted-same l
 deletion-agrees line pattern parents (Some value) keys f distinct = deleted-same line pattern keys f
 
 -- ---- what an edit that went through has left
-
-abbrev given : Below → Outcome Below
-given f = Ok f
 
 gave-some : (line : ℕ) (xs : List Step) (made new : Below) → unless_none line xs (given made) ≡ given new → made ≡ new
 gave-some line [] made new e = cc

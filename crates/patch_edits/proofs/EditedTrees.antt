@@ -1,27 +1,25 @@
 -- What is left of the tree of an element below which something was edited.
-use Rattle.std.proofs.Common.{◌≡◌, ◌≢◌, ◌⊎◌, ℕ, ◌+◌, Bool, true, false, ◌&&◌, List, [], ◌∷◌, map, Option, Some, Result, Ok, Err, refl, sym, ap, ap₂, ◌∙◌, subst, inl, inr}
+use Rattle.std.proofs.Common.{◌≡◌, Bool, true, ◌&&◌, map, Option, Some, Result, Ok, Err, refl, sym, ap, ap₂, ◌∙◌, subst, inl, inr}
 use Rattle.glob_select.specs.Matching.{matches}
 use Rattle.patch_model.specs.Acts.{PatternItems}
 use Rattle.patch_sem.specs.declared.fault.PatchFault.{PatchFault}
-use Rattle.patch_sem.specs.declared.fault.PatchFault.TheVariants.{Memory, NoMatch}
 use Rattle.patch_sem.specs.Selecting.{is_patched, selects}
-use Rattle.patch_sem.specs.Steps.{Outcome, ◌>>=◌}
+use Rattle.patch_sem.specs.Steps.{Outcome}
 use Rattle.patch_edits.specs.Edits.{Edited, EditedChild, EditedOne}
-use Rattle.patch_edits.specs.Visits.{Below, each, only_if, visited}
+use Rattle.patch_edits.specs.Visits.{Below, only_if}
 use Rattle.svd_model.specs.declared.device.Child.{Child}
 use Rattle.svd_model.specs.declared.device.Child.TheVariants.{Cluster, Register}
 use Rattle.svd_model.specs.declared.device.Child.TheOpen.{Cluster-F, Item-F}
 use Rattle.svd_model.specs.declared.device.Cluster.{Cluster as ClusterOf, out-Cluster, roll-Cluster}
-use Rattle.svd_model.specs.declared.device.Field.{Field}
 use Rattle.svd_model.specs.declared.device.Item.{Item, roll-Item}
 use Rattle.svd_model.specs.declared.device.Peripheral.{Peripheral}
 use Rattle.svd_model.specs.declared.device.Register.{Register as RegisterOf}
 use Rattle.svd_model.specs.declared.sibling.Sibling.{Sibling}
 use Rattle.svd_model.proofs.Trees.{child_tree-cluster, child_tree-register, cluster_tree-below, cluster_tree-with_children, item_under-is, item_under-name, item_under-roll}
 use Rattle.svd_model.specs.Keys.{Key}
-use Rattle.svd_model.specs.Steps.{Kind, Step, cluster, field, peripheral, register, set}
-use Rattle.svd_model.specs.Trees.{child_tree, cluster_tree, field_under, item_under, numbered, peripheral_places, peripheral_under, register_places, register_tree}
-use Rattle.svd_rows.specs.Forest.{Tree, leaf, node, siblings}
+use Rattle.svd_model.specs.Steps.{Kind, Step, cluster, peripheral, register}
+use Rattle.svd_model.specs.Trees.{child_tree, cluster_tree, item_under, peripheral_places, peripheral_under, register_places, register_tree}
+use Rattle.svd_rows.specs.Forest.{Tree, siblings}
 use Rattle.svd_rows.specs.Ranks.{stated}
 
 -- an element that the pattern matches

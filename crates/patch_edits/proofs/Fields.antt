@@ -1,9 +1,7 @@
 -- A walk that comes to fields: nothing below them is a child for a patch.
-use Rattle.std.proofs.Common.{◌≡◌, ℕ, ◌+◌, Bool, true, false, ◌&&◌, List, [], ◌∷◌, length, map, Option, Some, Ok, Err, refl, sym, ap, ap₂, ◌∙◌}
-use Rattle.glob_select.specs.Matching.{matches}
+use Rattle.std.proofs.Common.{◌≡◌, ℕ, ◌+◌, Bool, List, [], ◌∷◌, length, map, Option, Some, Ok, Err, refl, ap, ◌∙◌}
 use Rattle.patch_model.specs.Acts.{PatternItems}
 use Rattle.patch_sem.specs.declared.fault.PatchFault.{PatchFault}
-use Rattle.patch_sem.specs.declared.fault.PatchFault.TheVariants.{NoMatch}
 use Rattle.patch_sem.specs.Selecting.{selects}
 use Rattle.patch_sem.specs.Steps.{Outcome, ◌>>=◌}
 use Rattle.patch_edits.specs.Visits.{Below, each, only_if, visited}

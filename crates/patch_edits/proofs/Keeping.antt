@@ -1,8 +1,9 @@
 -- What a walk keeps where its edit does: what is said of each element, and that siblings are distinct.
-use Rattle.std.proofs.Common.{◌≡◌, Bool, true, false, List, [], ◌∷◌, Option, Some, Ok, refl, sym, ap, ◌∙◌, subst}
+use Rattle.std.proofs.Common.{◌≡◌, Bool, true, false, List, [], ◌∷◌, Option, Some, Ok, ap, ◌∙◌, subst}
 use Rattle.std.specs.List.{AllByRecursion}
 use Rattle.patch_sem.proofs.Outcomes.{both_ok}
 use Rattle.patch_sem.specs.Steps.{Outcome, ◌>>=◌}
+use Rattle.patch_edits.proofs.Binds.{given, given_is}
 use Rattle.patch_edits.specs.Visits.{Below, each, only_if, visited}
 use Rattle.svd_model.specs.Keys.{Key}
 use Rattle.svd_model.specs.Steps.{Kind, Step, same_key}
@@ -12,12 +13,6 @@ use Rattle.svd_rows.specs.Forest.{leaf, node, steps}
 -- an edit keeps a fact of what is below an element
 abbrev pub Keeps : (Below → Type 0) → (Option Kind → Below → Outcome Below) → Type 0
 Keeps Holds edit = (kind : Option Kind) (f new : Below) → edit kind f ≡ Ok new → Holds f → Holds new
-
-abbrev given : Below → Outcome Below
-given f = Ok f
-
-given_is : (one other : Below) → given one ≡ given other → one ≡ other
-given_is one other e = cc
 
 kept : (Holds : Below → Type 0) (one other : Below) → given one ≡ given other → Holds one → Holds other
 kept Holds one other e h = subst Holds (given_is one other e) h

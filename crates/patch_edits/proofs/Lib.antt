@@ -6,3 +6,4 @@ pub mod Fields
 pub mod Deleting
 pub mod Applying
 pub mod Keeping
+pub mod Binds

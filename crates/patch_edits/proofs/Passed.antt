@@ -1,10 +1,11 @@
 -- Siblings in a list that is edited from the front: what is passed, and what is still to come.
-use Rattle.std.proofs.Common.{◌≡◌, ◌⊎◌, ◌≤◌, ◌<◌, ℕ, ◌+◌, Bool, List, [], ◌∷◌, ◌++◌, map, take, drop, set, length, slice_get, get_or, Option, Some, Ok, Err, refl, sym, ap, ap₂, ◌∙◌, subst, inl, inr, arith, Result, IsErrAnd}
+use Rattle.std.proofs.Common.{◌≡◌, ◌⊎◌, ◌≤◌, ℕ, ◌+◌, Bool, List, [], ◌∷◌, ◌++◌, map, take, drop, set, length, slice_get, Some, Ok, Err, refl, sym, ap, ap₂, ◌∙◌, inl, inr, arith, Result, IsErrAnd}
 use Rattle.std.proofs.lemmas.List.{drop_all, drop_more, drop-set-lt, map-append, take_all, take_more_set}
 use Rattle.std.proofs.lemmas.Option.{get_or_from_slice_get, slice_get_within}
 use Rattle.patch_sem.specs.declared.fault.PatchFault.{PatchFault}
 use Rattle.patch_sem.specs.declared.fault.PatchFault.TheVariants.{Memory}
 use Rattle.patch_sem.specs.Steps.{Outcome, ◌>>=◌}
+use Rattle.patch_edits.proofs.Binds.{bind-assoc, bind-ok, bind-same}
 use Rattle.patch_edits.specs.Edits.{Edited}
 use Rattle.patch_edits.specs.Visits.{Below, each, only_if}
 use Rattle.svd_model.specs.Keys.{Key}
@@ -17,18 +18,6 @@ use Rattle.svd_rows.specs.Forest.{Tree, leaf, node, join, siblings}
 abbrev pub Passed : {A : Type 0} → (Step → Bool) → (Kind → Below → Outcome Below) → (A → Step × Tree Step Key) → List A → List A → ℕ → Type 0
 Passed test edit seen old now i =
     each test edit (siblings (map seen old)) ≡ (each test edit (siblings (map seen (drop i now))) >>= (λ others. Ok (join (siblings (map seen (take i now))) others)))
-
-bind-assoc : {A B C : Type 0} (first : Outcome A) (next : A → Outcome B) (last : B → Outcome C) → ((first >>= next) >>= last) ≡ (first >>= (λ x. next x >>= last))
-bind-assoc (Ok x) next last = refl
-bind-assoc (Err fault) next last = refl
-
-bind-same : {A B : Type 0} (first : Outcome A) (next other : A → Outcome B) → ((x : A) → next x ≡ other x) → (first >>= next) ≡ (first >>= other)
-bind-same (Ok x) next other same = same x
-bind-same (Err fault) next other same = refl
-
-bind-ok : {A : Type 0} (first : Outcome A) → (first >>= (λ x. Ok x)) ≡ first
-bind-ok (Ok x) = refl
-bind-ok (Err fault) = refl
 
 join-leaf : (f : Below) → join f leaf ≡ f
 unfolding join
@@ -86,7 +75,7 @@ module _ {A : Type 0} (test : Step → Bool) (edit : Kind → Below → Outcome 
       ∙ ap (λ (made : Outcome Below). (made >>= (λ below. rest >>= (λ others. Ok (node (seen x).0 (seen x).1.keys below others)))) >>= put) is.0
       ∙ bind-assoc rest (λ others. Ok (node (seen x).0 (seen x).1.keys (seen y).1.below others)) put
       ∙ bind-same rest (λ others. put (node (seen x).0 (seen x).1.keys (seen y).1.below others)) (λ others. Ok (join (siblings (map seen (take (i + 1) (set now i y)))) others))
-      (λ others. ap Ok (ap₂ (λ (s : Step) (ks : List Key). join (siblings (map seen (take i now))) (node s ks (seen y).1.below others)) (sym is.1) (sym is.2)
+      (λ others is_given. ap Ok (ap₂ (λ (s : Step) (ks : List Key). join (siblings (map seen (take i now))) (node s ks (seen y).1.below others)) (sym is.1) (sym is.2)
       ∙ sym (join-one (map seen (take i now)) (seen y) others)
       ∙ ap (λ (front : List (Step × Tree Step Key)). join (siblings front) others) (sym (ap (map seen) (take_more_set now i y (slice_get_within now i x here)) ∙ map-append seen (take i now) (y ∷ [])))))
       ∙ ap (λ (left : List A). each test edit (siblings (map seen left)) >>= (λ others. Ok (join (siblings (map seen (take (i + 1) (set now i y)))) others))) (sym (drop-set-lt (i + 1) now i y (omega arith)))

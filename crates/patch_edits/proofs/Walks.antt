@@ -1,14 +1,14 @@
 -- A command in the tree is the command at each of its parents in turn, among the flat rows: for edits that leave no more
 -- elements than there were.
-use Rattle.std.proofs.Common.{◌≡◌, ◌≤◌, ℕ, ◌+◌, Bool, true, false, cond, ◌&&◌, List, [], ◌∷◌, ◌++◌, map, Option, Some, None, Ok, Err, refl, sym, ap, ap₂, ◌∙◌, subst, append-nil, append_assoc, arith, map-id}
+use Rattle.std.proofs.Common.{◌≡◌, ◌≤◌, ℕ, ◌+◌, Bool, true, false, cond, List, [], ◌∷◌, ◌++◌, map, Option, Some, None, Ok, refl, sym, ap, ap₂, ◌∙◌, subst, append-nil, append_assoc, arith, map-id}
 use Rattle.std.specs.List.{AllByRecursion}
 use Rattle.std.proofs.lemmas.List.{map-append}
-use Rattle.patch_model.specs.Acts.{Deed, Order}
+use Rattle.patch_model.specs.Acts.{Order}
 use Rattle.patch_sem.proofs.Outcomes.{both_ok}
-use Rattle.patch_sem.specs.declared.fault.PatchFault.{PatchFault}
 use Rattle.patch_sem.specs.Patching.{acted, applied, applied_at, applied_to, places_of, put_inside, within_limit}
 use Rattle.patch_sem.specs.Selecting.{Rows, kind_at, last_kind, selects}
 use Rattle.patch_sem.specs.Steps.{Outcome, ◌>>=◌}
+use Rattle.patch_edits.proofs.Binds.{bind-assoc, bind-ok, bind-same, given, given_is}
 use Rattle.patch_edits.proofs.Contexts.{Clear, at, at-parts, clear-sibling, clear-siblings, fewer-in, in_limit, inner, inner-node, inside-context, put-context, tree_with, within_path}
 use Rattle.patch_edits.specs.Visits.{Below, each, only_if, visited}
 use Rattle.svd_model.proofs.Steps.{same_step-tells}
@@ -21,26 +21,12 @@ use Rattle.svd_rows.proofs.Exchanging.{begins-behind, begins-longer, some_pass-a
 use Rattle.svd_rows.proofs.Finding.{map-under_nothing, paths-rows}
 use Rattle.svd_rows.proofs.Standing.{some_pass-own}
 use Rattle.svd_rows.proofs.Passing.{some_pass-append}
-use Rattle.svd_rows.specs.Elements.{IsAbsent, IsDistinct, count, found, found_in, step_down}
+use Rattle.svd_rows.specs.Elements.{IsDistinct, count, found, found_in, step_down}
 use Rattle.svd_rows.specs.Forest.{Tree, leaf, node, steps}
-use Rattle.svd_rows.specs.LookUps.{element_paths, inside}
+use Rattle.svd_rows.specs.LookUps.{element_paths}
 use Rattle.svd_rows.specs.Paths.{begins, exactly, is_within}
 use Rattle.svd_rows.specs.RowEdits.{some_pass}
-use Rattle.svd_rows.specs.Rows.{forest_rows, own, rows, under, under_path}
-
--- ---- steps one after the other
-
-bind-assoc : {A B C : Type 0} (first : Outcome A) (next : A → Outcome B) (last : B → Outcome C) → ((first >>= next) >>= last) ≡ (first >>= (λ x. next x >>= last))
-bind-assoc (Ok x) next last = refl
-bind-assoc (Err fault) next last = refl
-
-bind-same : {A B : Type 0} (first : Outcome A) (next other : A → Outcome B) → ((x : A) → first ≡ Ok x → next x ≡ other x) → (first >>= next) ≡ (first >>= other)
-bind-same (Ok x) next other same = same x refl
-bind-same (Err fault) next other same = refl
-
-bind-ok : {A : Type 0} (first : Outcome A) → (first >>= (λ x. Ok x)) ≡ first
-bind-ok (Ok x) = refl
-bind-ok (Err fault) = refl
+use Rattle.svd_rows.specs.Rows.{own, rows, under_path}
 
 applied-append : (order : Order) (paths more : List (List Step)) (all : Rows) → applied_to order (paths ++ more) all ≡ (applied_to order paths all >>= applied_to order more)
 unfolding applied_to
@@ -62,12 +48,6 @@ abbrev pub Shrinks : (Option Kind → Below → Outcome Below) → Type 0
 Shrinks edit = (kind : Option Kind) (f new : Below) → edit kind f ≡ Ok new → elements_in new ≤ elements_in f
 
 -- ---- counts
-
-abbrev given : Below → Outcome Below
-given f = Ok f
-
-given_is : (one other : Below) → given one ≡ given other → one ≡ other
-given_is one other e = cc
 
 same-count : (one other : Below) → given one ≡ given other → elements_in other ≤ elements_in one
 same-count one other e = subst (λ (g : Below). elements_in g ≤ elements_in one) (given_is one other e) (omega arith)

@@ -1,11 +1,11 @@
 -- Opening and deleting in the tree: the edits of what is below one element.
-use Rattle.std.specs.Prelude.{ℕ, List, filter, Option, Some, None, Ok, Err}
+use Rattle.std.specs.Prelude.{ℕ, List, filter, Option, Some, Ok, Err}
 use Rattle.patch_model.specs.Acts.{PatternItems}
 use Rattle.patch_sem.specs.declared.fault.PatchFault.TheVariants.{NoMatch}
 use Rattle.patch_sem.specs.Selecting.{selects}
 use Rattle.patch_sem.specs.Steps.{Outcome, unless_none}
 use Rattle.patch_edits.specs.Visits.{Below}
-use Rattle.svd_model.specs.Steps.{Kind, Step, peripheral, cluster, register, field, set, value}
+use Rattle.svd_model.specs.Steps.{Kind, Step, field}
 use Rattle.svd_rows.specs.Edits.{replaced}
 use Rattle.svd_rows.specs.Forest.{leaf, steps}
 

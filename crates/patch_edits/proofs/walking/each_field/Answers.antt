@@ -1,4 +1,4 @@
-use Rattle.std.proofs.Common.{Some, map, subst, sym, ap, ◌∙◌}
+use Rattle.std.proofs.Common.{Some, map, subst}
 use Rattle.patch_sem.specs.Selecting.{selects}
 use Rattle.patch_edits.proofs.Fields.{Decides, decides-fault, decides-more, decides-none, one}
 use Rattle.patch_edits.proofs.Passed.{broke_off}

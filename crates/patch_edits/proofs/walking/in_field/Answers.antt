@@ -1,4 +1,4 @@
-use Rattle.std.proofs.Common.{List, Some, inr, map, sym, ap, ◌∙◌, subst}
+use Rattle.std.proofs.Common.{List, Some, inr, map, ap, ◌∙◌}
 use Rattle.patch_model.specs.Acts.{PatternItems}
 use Rattle.patch_sem.specs.declared.fault.PatchFault.TheVariants.{NoMatch}
 use Rattle.patch_sem.specs.Selecting.{selects}

@@ -1,6 +1,5 @@
 use Rattle.std.proofs.Common.{inr}
 use Rattle.std.proofs.lemmas.Bool.{both_ways}
-use Rattle.glob_select.specs.Matching.{matches}
 use Rattle.patch_edits.proofs.Deleting.{deletes-none, deletes-some, is_matched, peripheral_tells}
 use Rattle.patch_edits.specs.Deletions.{deleted_below}
 use Rattle.svd_model.specs.Trees.{peripheral_under}

@@ -1,4 +1,4 @@
-use Rattle.std.proofs.Common.{ap, inr, sym, ◌∙◌}
+use Rattle.std.proofs.Common.{inr, sym, ◌∙◌}
 use Rattle.patch_edits.proofs.Deleting.{opens-none, opens-some, is_matched, field_tells}
 use Rattle.patch_edits.specs.Deletions.{opened_below}
 use Rattle.svd_model.specs.Trees.{field_under}
