@@ -12,6 +12,6 @@ fn two_equal_words_are_unsorted_at_the_second(rt: HostRuntime) -> Result<(), Fai
     assert!(rt; matches!(made, Err(Unsorted { at: 2 })));
     let rows = [row("bit", 4), row("read", 7)];
     let table = CaseTable::<2>::new(&rows)?;
-    assert_eq!(rt; table.find(b"read"), Some(7));
+    assert!(rt; table.find(b"read") == Some(7));
     Ok(())
 }

@@ -2,7 +2,7 @@ use crate::vendor::VENDOR;
 use pac_base::Span;
 use std::alloc::Global;
 use std::test::Fail;
-use svd_text::{Element, TextFault, read_element};
+use svd_text::{Element, Source, TextFault, read_element};
 
 /// How many elements an element is, itself and those in it.
 fn counted(element: &Element) -> u32 {
@@ -66,9 +66,9 @@ const WHOLE: &str = "<?xml?><device><name>D&amp;</name><!--c--></device>";
 #[test]
 fn texts_and_the_places_of_syntax(rt: HostRuntime) -> Result<(), Fail> {
     for (text, at) in TEXTS {
-        assert_eq!(rt; refused(rt.alloc(), text.as_bytes())?, at, "{text}");
+        assert!(rt; refused(rt.alloc(), text.as_bytes())? == at, "{text}");
     }
-    assert_eq!(rt; refused(rt.alloc(), b"<device>\xFF</device>")?, Some(8));
+    assert!(rt; refused(rt.alloc(), b"<device>\xFF</device>")? == Some(8));
     Ok(())
 }
 
@@ -78,20 +78,40 @@ fn no_prefix_is_a_text(rt: HostRuntime) -> Result<(), Fail> {
         let text = &WHOLE.as_bytes()[..end];
         assert!(rt; refused(rt.alloc(), text)?.is_some(), "{end}");
     }
-    assert_eq!(rt; refused(rt.alloc(), WHOLE.as_bytes())?, None);
+    assert!(rt; refused(rt.alloc(), WHOLE.as_bytes())?.is_none());
     Ok(())
+}
+
+/// Whether the last element of the last one inside refers to a name that stands at this place.
+fn is_derived_from(device: &Element, name: &[u8], at: u32) -> bool {
+    match last_source(device) {
+        Some(source) => source.value == name && source.at == at,
+        None => false,
+    }
+}
+
+/// What the last element of the last one inside refers to.
+fn last_source<'a>(device: &Element<'a>) -> Option<Source<'a>> {
+    device.children.last()?.children.last()?.source
 }
 
 #[test]
 fn elements_of_a_vendors_file(rt: HostRuntime) -> Result<(), Fail> {
     let device = read_element(rt.alloc(), VENDOR.as_bytes())?;
-    assert_eq!(rt; counted(&device), 71);
-    assert_eq!(rt; (device.name_at, device.ends_at), (112, 2098));
-    let peripherals = device.children.last().ok_or("peripherals")?;
-    let derived = peripherals.children.last().ok_or("a peripheral")?;
-    let source = derived.source.ok_or("a source")?;
-    assert_eq!(rt; (source.value, source.at), (b"TIM2".as_slice(), 1998));
+    assert!(rt; counted(&device) == 71);
+    assert!(rt; device.name_at == 112 && device.ends_at == 2098);
+    assert!(rt; is_derived_from(&device, b"TIM2", 1998));
     Ok(())
+}
+
+fn is_size(size: &Element) -> bool {
+    size.said.bytes() == b"32".as_slice()
+        && size.inside == b"3<!-- c -->2".as_slice()
+        && (size.name_at, size.inside_at, size.ends_at) == (9, 14, 33)
+}
+
+fn is_name(name: &Element) -> bool {
+    name.said.bytes() == b"A&\xC3\xA9".as_slice()
 }
 
 #[test]
@@ -100,12 +120,8 @@ fn value_without_comments(rt: HostRuntime) -> Result<(), Fail> {
         rt.alloc(),
         b"<device><size>3<!-- c -->2</size><name>A&amp;&#xE9;</name></device>",
     )?;
-    let size = device.children.first().ok_or("a size")?;
-    assert_eq!(rt; size.said.bytes(), b"32".as_slice());
-    assert_eq!(rt; size.inside, b"3<!-- c -->2".as_slice());
-    assert_eq!(rt; (size.name_at, size.inside_at, size.ends_at), (9, 14, 33));
-    let name = device.children.last().ok_or("a name")?;
-    assert_eq!(rt; name.said.bytes(), b"A&\xC3\xA9".as_slice());
+    assert!(rt; device.children.first().is_some_and(is_size));
+    assert!(rt; device.children.last().is_some_and(is_name));
     Ok(())
 }
 
@@ -154,7 +170,7 @@ const NESTED: [(usize, &str, &str, u32); 4] = [
 #[test]
 fn nesting_up_to_64(rt: HostRuntime) -> Result<(), Fail> {
     for (depth, end, said, at) in NESTED {
-        assert_eq!(rt; nesting(rt.alloc(), depth, end)?, (said, at), "{depth}");
+        assert!(rt; nesting(rt.alloc(), depth, end)? == (said, at), "{depth}");
     }
     Ok(())
 }

@@ -13,7 +13,7 @@ const NO_NAMES: [&str; 9] = [
 fn names_are_words_with_one_mark(rt: HostRuntime) -> Result<(), Fail> {
     for text in NAMES {
         let name = Name::new(rt.alloc(), text.as_bytes())?;
-        assert_eq!(rt; name.copy(rt.alloc())?.bytes(), text.as_bytes(), "{text}");
+        assert!(rt; name.copy(rt.alloc())?.bytes() == text.as_bytes(), "{text}");
     }
     for text in NO_NAMES {
         let name = Name::new(rt.alloc(), text.as_bytes());
@@ -25,7 +25,7 @@ fn names_are_words_with_one_mark(rt: HostRuntime) -> Result<(), Fail> {
 #[test]
 fn texts_are_utf8(rt: HostRuntime) -> Result<(), Fail> {
     let text = Text::new(rt.alloc(), "Timers \u{e9}".as_bytes())?;
-    assert_eq!(rt; text.copy(rt.alloc())?.as_str(), "Timers \u{e9}");
+    assert!(rt; text.copy(rt.alloc())?.as_str() == "Timers \u{e9}");
     let refused = Text::new(rt.alloc(), &[0xc3]);
     assert!(rt; matches!(refused, Err(TextFault::NotUtf8)));
     Ok(())
@@ -38,7 +38,7 @@ fn a_path_grows_by_steps(rt: HostRuntime) -> Result<(), Fail> {
         name: Name::new(rt.alloc(), b"CH")?,
         index: Some(3),
     })?;
-    assert_eq!(rt; path.len(), 1);
+    assert!(rt; path.len() == 1);
     assert!(rt; path.get(0).is_some_and(|step| step.index == Some(3)));
     Ok(())
 }
@@ -58,21 +58,27 @@ const ACCESSORS: [(&str, &str); 8] = [
 // Written names, with the slot that each gives.
 const SLOTS: [(&str, &str); 3] = [("Self", "Self_"), ("READ", "READ"), ("1WIRE", "_1WIRE")];
 
+fn accessor_of(alloc: Global, written: &str) -> Result<Name, Fail> {
+    let name = Name::new(alloc, written.as_bytes())?;
+    Ok(accessor(alloc, &name)?)
+}
+
+fn slot_of(alloc: Global, written: &str) -> Result<Name, Fail> {
+    let name = Name::new(alloc, written.as_bytes())?;
+    Ok(slot_name(alloc, &name)?)
+}
+
 #[test]
 fn keyword_names(rt: HostRuntime) -> Result<(), Fail> {
     for (written, call) in ACCESSORS {
-        let name = Name::new(rt.alloc(), written.as_bytes())?;
-        assert_eq!(rt;
-            accessor(rt.alloc(), &name)?.bytes(),
-            call.as_bytes(),
+        assert!(rt;
+            accessor_of(rt.alloc(), written)?.bytes() == call.as_bytes(),
             "{written}"
         );
     }
     for (written, slot) in SLOTS {
-        let name = Name::new(rt.alloc(), written.as_bytes())?;
-        assert_eq!(rt;
-            slot_name(rt.alloc(), &name)?.bytes(),
-            slot.as_bytes(),
+        assert!(rt;
+            slot_of(rt.alloc(), written)?.bytes() == slot.as_bytes(),
             "{written}"
         );
     }
@@ -98,8 +104,8 @@ fn calls_of(alloc: Global, written: &str) -> Result<(Name, Name), Fail> {
 fn calls_of_values(rt: HostRuntime) -> Result<(), Fail> {
     for (written, writes, asks) in VALUE_CALLS {
         let (write, ask) = calls_of(rt.alloc(), written)?;
-        assert_eq!(rt; write.bytes(), writes.as_bytes(), "{written}");
-        assert_eq!(rt; ask.bytes(), asks.as_bytes(), "{written}");
+        assert!(rt; write.bytes() == writes.as_bytes(), "{written}");
+        assert!(rt; ask.bytes() == asks.as_bytes(), "{written}");
     }
     Ok(())
 }

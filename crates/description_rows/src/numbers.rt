@@ -43,10 +43,10 @@ const VALUES: [(&str, Option<u64>); 4] = [
 #[test]
 fn numbers_in_three_bases(rt: HostRuntime) {
     for (text, value) in NUMBERS {
-        assert_eq!(rt; number(text.as_bytes()), value, "{text}");
+        assert!(rt; number(text.as_bytes()) == value, "{text}");
     }
     for (text, value) in VALUES {
-        assert_eq!(rt; value_bits(text.as_bytes()), value, "{text}");
+        assert!(rt; value_bits(text.as_bytes()) == value, "{text}");
     }
 }
 

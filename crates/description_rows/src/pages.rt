@@ -12,9 +12,9 @@ fn a_page_prints_numbers_and_hands_on_when_full(rt: HostRuntime) -> Result<(), F
     page.put(b" 0x", &mut sink)?;
     page.hexadecimal(0xa, 2)?;
     page.turn(&mut sink)?;
-    assert_eq!(rt; sink.written().len(), 0);
+    assert!(rt; sink.written().len() == 0);
     page.put(&[b'.'; 65_536], &mut sink)?;
-    assert_eq!(rt; sink.written().len(), 65_564);
+    assert!(rt; sink.written().len() == 65_564);
     page.push(b"end")?;
     page.finish(&mut sink)?;
     let line = b"TIMER0 65536 0x4000a010 0x0a";

@@ -49,7 +49,7 @@ const PARTS: [(&str, usize, bool); 22] = [
 #[test]
 fn parts_of_texts(rt: HostRuntime) -> Result<(), Fail> {
     for (text, count, whole) in PARTS {
-        assert_eq!(rt; counted(rt.alloc(), text)?, (count, whole), "{text}");
+        assert!(rt; counted(rt.alloc(), text)? == (count, whole), "{text}");
     }
     Ok(())
 }
@@ -60,13 +60,13 @@ fn start_tag_with_both_quotes(rt: HostRuntime) -> Result<(), Fail> {
     let Part::Start(tag) = part else {
         return Err(Fail::from("a start tag"));
     };
-    assert_eq!(rt; tag.name, b"field".as_slice());
+    assert!(rt; tag.name == b"field".as_slice());
     assert!(rt; tag.closes_itself);
-    assert_eq!(rt; tag.attributes.len(), 2);
-    assert_eq!(rt; tag.attributes[0].value, b"A.B".as_slice());
-    assert_eq!(rt; tag.attributes[0].left, 21);
-    assert_eq!(rt; tag.attributes[1].name, b"x:y".as_slice());
-    assert_eq!(rt; tag.attributes[1].value, b"&".as_slice());
-    assert_eq!(rt; rest, b"&lt;".as_slice());
+    assert!(rt; tag.attributes.len() == 2);
+    assert!(rt; tag.attributes[0].value == b"A.B".as_slice());
+    assert!(rt; tag.attributes[0].left == 21);
+    assert!(rt; tag.attributes[1].name == b"x:y".as_slice());
+    assert!(rt; tag.attributes[1].value == b"&".as_slice());
+    assert!(rt; rest == b"&lt;".as_slice());
     Ok(())
 }

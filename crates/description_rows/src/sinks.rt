@@ -7,7 +7,7 @@ fn a_sink_goes_on_after_its_first_write_fails(rt: HostRuntime) -> Result<(), Fai
     sink.fail(1)?;
     assert!(rt; matches!(sink.write_all(b"ab"), Err(SinkFault::Failed)));
     sink.write_all(b"cd")?;
-    assert_eq!(rt; sink.written(), b"cd".as_slice());
+    assert!(rt; sink.written() == b"cd".as_slice());
     Ok(())
 }
 
@@ -17,6 +17,6 @@ fn a_std_writer_that_takes_nothing_more_fails(rt: HostRuntime) -> Result<(), Fai
     let mut sink = StdSink::new(room.as_mut_slice());
     sink.write_all(b"ab")?;
     assert!(rt; matches!(sink.write_all(b"cd"), Err(SinkFault::Failed)));
-    assert_eq!(rt; room, *b"abc");
+    assert!(rt; room == *b"abc");
     Ok(())
 }

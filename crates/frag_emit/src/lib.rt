@@ -2,7 +2,9 @@
 #![tactic(auto)]
 
 mod emission;
+mod emitter;
 mod laws;
 
 pub use emission::emit;
+pub use emitter::{Emitter, print_text};
 pub use laws::headline_law;

@@ -4,3 +4,11 @@ pub mod Runs
 pub mod Courses
 pub mod Stages
 pub mod Answers
+pub mod Preparing
+pub mod Held
+pub mod Fields
+pub mod Lowering
+pub mod Lowered
+pub mod Called
+pub mod Plans
+pub mod Keys

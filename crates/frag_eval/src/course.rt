@@ -4,7 +4,8 @@ ghost use Rattle.frag_eval.specs.Courses.{Accesses, GoesTo, IsAtAccess, IsCourse
 
 use crate::deed::{Deed, Target};
 use crate::word::{operand_said, written_word};
-use frag_tree::{Crate, Event, Events, Said, Script};
+use frag_tree::{Event, Events, Said};
+use frag_types::{TypedCrate, TypedScript};
 use pac_bus::{Bus, BusFailed};
 use std::snapshot::Snapshot;
 
@@ -12,8 +13,8 @@ use std::snapshot::Snapshot;
 #[derive(Drop)]
 pub(crate) struct Course {
     /// The crate, for contracts alone.
-    pub of: Snapshot<Crate>,
-    pub script: Script,
+    pub of: Snapshot<TypedCrate>,
+    pub script: TypedScript,
     /// All that there is to do.
     pub deeds: Vec<Deed>,
     /// Which of it is next.

@@ -1,7 +1,7 @@
 ghost use Rattle.std.specs.Prelude.{◌≡◌};
 
 use crate::course::Course;
-use frag_tree::Script;
+use frag_types::TypedScript;
 use std::marker::Model;
 
 /// A script that is ready to run against a crate, with the room for all that it does. Contracts see it as
@@ -28,7 +28,7 @@ impl Model for Ready {
 
 impl Ready {
     /// The script that it holds. Takes no memory.
-    pub fn into_script(self) -> Script
+    pub fn into_script(self) -> TypedScript
         ensures { result ≡ self.script }
     {
         let course = self.course;

@@ -8,7 +8,7 @@ use Rattle.frag_words.specs.Readings.{expected, then_read, word_is}
 use Rattle.frag_words.proofs.Readings.{both, both_left, both_right}
 use Rattle.frag_tree.specs.declared.krate.Version.{Version}
 use Rattle.frag_tree.specs.declared.krate.Version.TheVariants.{One, Two}
-use Rattle.frag_parse.specs.Signs.{sign_word}
+use Rattle.frag_token.specs.Signs.{sign_word}
 use Rattle.frag_tree.specs.ModuleProductions.{block_of, block_reading, crate_head, head_reading, modules_reading, read_blocks, read_crate, read_parts, slots_reading, with_blocks}
 use Rattle.frag_tree.specs.Productions.{slot_reading}
 use Rattle.frag_tree.specs.Trees.{BlockTree, CrateTree, block_tree, crate_tree}
@@ -19,18 +19,20 @@ use Rattle.frag_tree.proofs.CrateProductions.{crate_again, crate_takes}
 use Rattle.frag_tree.proofs.Fine.{printed_words}
 use Rattle.frag_parse.specs.declared.fault.Refusal.{Refusal}
 use Rattle.frag_parse.specs.declared.fault.Refusal.TheVariants as refusal
-use Rattle.frag_parse.specs.declared.fault.Stop.{Stop}
+use Rattle.frag_token.specs.declared.fault.Stop.{Stop}
 use Rattle.frag_tree.specs.declared.phrase.Phrase.TheVariants as phrase
 use Rattle.frag_parse.specs.Depth.{Deep, Refuses, widened}
 use Rattle.frag_parse.specs.Nesting.{block_within, crate_within, nests_within}
 use Rattle.frag_parse.specs.Parsing.{IsCrateOf}
 use Rattle.frag_tree.specs.Phrases.{words_of}
-use Rattle.frag_parse.specs.Reading.{Fails, Found, begins_pub, block_at, blocks_at, braced_at, crate_at, expects, head_at, is_end, opening_at, phrase_at, sign_at, version_at}
+use Rattle.frag_token.specs.Reading.{Fails, Found, begins_pub, braced_at, expects, is_end, phrase_at, sign_at}
+use Rattle.frag_parts.specs.Reading.{head_at}
+use Rattle.frag_parse.specs.Reading.{block_at, blocks_at, crate_at, opening_at, version_at}
 use Rattle.frag_parse.proofs.Depth.{inside_within, passed_on, refuses_same, stopped}
-use Rattle.frag_parse.proofs.Lists.{joined, joined-nil}
+use Rattle.frag_token.proofs.Lists.{joined, joined-nil}
 use Rattle.frag_parse.proofs.ModuleSteps.{all_modules, block_shrinks}
-use Rattle.frag_parse.proofs.Same.{head_same, slots_same}
-use Rattle.frag_parse.proofs.Steps.{does_known, does_pair, expected_is, expects-append}
+use Rattle.frag_parts.proofs.Same.{head_same, slots_same}
+use Rattle.frag_parts.proofs.Steps.{does_known, does_pair, expected_is, expects-append}
 
 abbrev given : {A : Type 0} → A → Option A
 given x = Some x

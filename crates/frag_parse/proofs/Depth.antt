@@ -16,13 +16,15 @@ use Rattle.frag_tree.specs.declared.block.Module.{Module}
 use Rattle.frag_tree.specs.declared.register.RegisterModule.{RegisterModule}
 use Rattle.frag_parse.specs.declared.fault.Refusal.{Refusal}
 use Rattle.frag_parse.specs.declared.fault.Refusal.TheVariants as refusal
-use Rattle.frag_parse.specs.declared.fault.Stop.{Stop}
-use Rattle.frag_parse.specs.declared.fault.Stop.TheVariants as stop
+use Rattle.frag_token.specs.declared.fault.Stop.{Stop}
+use Rattle.frag_token.specs.declared.fault.Stop.TheVariants as stop
 use Rattle.frag_tree.specs.declared.phrase.Phrase.TheVariants as phrase
-use Rattle.frag_parse.specs.declared.sign.Sign.TheVariants as sign
+use Rattle.frag_token.specs.declared.sign.Sign.TheVariants as sign
 use Rattle.frag_parse.specs.Depth.{Deep, Refuses, widened}
 use Rattle.frag_parse.specs.Nesting.{module_within, nests_within}
-use Rattle.frag_parse.specs.Reading.{Fails, Found, block_at, head_at, module_at, phrase_at, register_at, sign_at}
+use Rattle.frag_token.specs.Reading.{Fails, Found, phrase_at, sign_at}
+use Rattle.frag_parts.specs.Reading.{head_at, register_at}
+use Rattle.frag_parse.specs.Reading.{block_at, module_at}
 use Rattle.frag_parse.proofs.ModuleSteps.{all_modules, as_block, block_module, built, register_module, modules_end, modules_more, with_others}
 
 -- ---- passing on

@@ -1,8 +1,3 @@
-pub mod Tokens
-pub mod Numerals
-pub mod Lists
-pub mod Steps
-pub mod Same
 pub mod ModuleSteps
 pub mod Depth
 pub mod CrateSteps

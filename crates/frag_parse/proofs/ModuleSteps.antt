@@ -16,13 +16,15 @@ use Rattle.frag_tree.proofs.Braced.{one_word}
 use Rattle.frag_tree.proofs.ModuleProductions.{head_exact}
 use Rattle.frag_tree.proofs.RegisterModules.{register_exact}
 use Rattle.frag_tree.specs.declared.phrase.Phrase.TheVariants as phrase
-use Rattle.frag_parse.specs.declared.sign.Sign.TheVariants as sign
-use Rattle.frag_parse.specs.Signs.{sign_word}
+use Rattle.frag_token.specs.declared.sign.Sign.TheVariants as sign
+use Rattle.frag_token.specs.Signs.{sign_word}
 use Rattle.frag_tree.specs.Phrases.{words_of}
-use Rattle.frag_parse.specs.Reading.{Found, Shrinks, block_at, head_at, module_at, phrase_at, register_at, sign_at}
-use Rattle.frag_parse.specs.Shrinking.{shrinks_of}
-use Rattle.frag_parse.proofs.Same.{head_same, register_same}
-use Rattle.frag_parse.proofs.Steps.{expected_is}
+use Rattle.frag_token.specs.Reading.{Found, Shrinks, phrase_at, sign_at}
+use Rattle.frag_parts.specs.Reading.{head_at, register_at}
+use Rattle.frag_parse.specs.Reading.{block_at, module_at}
+use Rattle.frag_parts.specs.Shrinking.{shrinks_of}
+use Rattle.frag_parts.proofs.Same.{head_same, register_same}
+use Rattle.frag_parts.proofs.Steps.{expected_is}
 
 head_some : (tree : BlockHead) → 1 ≤ length (head_reading.words tree)
 unfolding head_reading opening_lines words_behind

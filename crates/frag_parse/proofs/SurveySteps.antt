@@ -8,11 +8,13 @@ use Rattle.frag_words.proofs.Readings.{both_left, both_right, some_is}
 use Rattle.frag_tree.specs.declared.krate.Version.{Version}
 use Rattle.frag_tree.specs.Trees.{BlockHead, BlockTree, ModuleTree, Modules, ended, one_block, one_register}
 use Rattle.frag_tree.specs.declared.register.RegisterModule.{RegisterModule}
-use Rattle.frag_parse.specs.declared.fault.Stop.{Stop}
-use Rattle.frag_parse.specs.declared.fault.Stop.TheVariants.{Unfit, Memory}
+use Rattle.frag_token.specs.declared.fault.Stop.{Stop}
+use Rattle.frag_token.specs.declared.fault.Stop.TheVariants.{Unfit, Memory}
 use Rattle.frag_tree.specs.declared.phrase.Phrase.TheVariants as phrase
-use Rattle.frag_parse.specs.declared.sign.Sign.TheVariants as sign
-use Rattle.frag_parse.specs.Reading.{Fails, Found, block_at, blocks_at, head_at, is_end, module_at, phrase_at, register_at, sign_at}
+use Rattle.frag_token.specs.declared.sign.Sign.TheVariants as sign
+use Rattle.frag_token.specs.Reading.{Fails, Found, is_end, phrase_at, sign_at}
+use Rattle.frag_parts.specs.Reading.{head_at, register_at}
+use Rattle.frag_parse.specs.Reading.{block_at, blocks_at, module_at}
 use Rattle.frag_parse.specs.Survey.{closes, inner_at, is_read, step_at, survey_at}
 use Rattle.frag_parse.proofs.ModuleSteps.{all_modules, as_block, block_module, built, closer_fewer, head_fewer, modules_end, modules_more, register_fewer, register_module, with_others}
 use Rattle.frag_parse.proofs.CrateSteps as crates

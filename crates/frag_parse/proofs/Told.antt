@@ -13,12 +13,13 @@ use Rattle.frag_parse.specs.declared.fault.ParseFault.{ParseFault}
 use Rattle.frag_parse.specs.declared.fault.ParseFault.TheVariants.{Syntax, TooDeep, Memory}
 use Rattle.frag_parse.specs.declared.fault.Refusal.{Refusal}
 use Rattle.frag_parse.specs.declared.fault.Refusal.TheVariants as refusal
-use Rattle.frag_parse.specs.declared.fault.Stop.{Stop}
-use Rattle.frag_parse.specs.declared.fault.Stop.TheVariants as stop
+use Rattle.frag_token.specs.declared.fault.Stop.{Stop}
+use Rattle.frag_token.specs.declared.fault.Stop.TheVariants as stop
 use Rattle.frag_parse.specs.Depth.{Deep, IsDeep, Refuses, Tells}
 use Rattle.frag_parse.specs.Nesting.{crate_within}
 use Rattle.frag_parse.specs.Parsing.{DeepCrate, IsCrateOf, IsParsedAs, RefusedFor}
-use Rattle.frag_parse.specs.Reading.{Fails, Found, blocks_at, crate_at, opening_at}
+use Rattle.frag_token.specs.Reading.{Fails, Found}
+use Rattle.frag_parse.specs.Reading.{blocks_at, crate_at, opening_at}
 use Rattle.frag_parse.specs.Survey.{is_read, survey_at, surveyed_at}
 use Rattle.frag_parse.proofs.CrateSteps.{behind_opening, crate_is_read, made_of, read_is_crate, tree_of, units_of, blocks_within, whole_read}
 

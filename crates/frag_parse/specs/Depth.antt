@@ -8,10 +8,10 @@ use Rattle.frag_parse.specs.declared.fault.ParseFault.{ParseFault}
 use Rattle.frag_parse.specs.declared.fault.ParseFault.TheVariants as fault
 use Rattle.frag_parse.specs.declared.fault.Refusal.{Refusal}
 use Rattle.frag_parse.specs.declared.fault.Refusal.TheVariants as refusal
-use Rattle.frag_parse.specs.declared.fault.Stop.{Stop}
-use Rattle.frag_parse.specs.declared.fault.Stop.TheVariants as stop
-use Rattle.frag_parse.specs.declared.head.Head.{Head}
-use Rattle.frag_parse.specs.Reading.{Found}
+use Rattle.frag_token.specs.declared.fault.Stop.{Stop}
+use Rattle.frag_token.specs.declared.fault.Stop.TheVariants as stop
+use Rattle.frag_parts.specs.declared.head.Head.{Head}
+use Rattle.frag_token.specs.Reading.{Found}
 
 -- a stop of a reader that counts no depth
 abbrev pub widened : Stop → Refusal
@@ -33,10 +33,6 @@ Refuses fits refusal.Memory read = Unit {0}
 abbrev pub Fits : {X A : Type 0} → (X → A × List Word) → (A → Bool) → Result X Refusal → Found A → Type 0
 Fits view fits (Ok x) read = (read ≡ Some (view x)) × (fits (view x).0 ≡ true)
 Fits view fits (Err cause) read = Refuses fits cause read
-
--- what stands in a block before its modules
-abbrev pub head_told : Head → BlockHead
-head_told head = record { name = head.name; fields = head.fields; accessors = head.accessors }
 
 -- what is read nests deeper than 64
 abbrev pub IsDeep : Found CrateTree → Type 0

@@ -5,8 +5,10 @@ use Rattle.frag_words.specs.Words.{Word}
 use Rattle.frag_tree.specs.declared.krate.Version.{Version}
 use Rattle.frag_tree.specs.ModuleProductions.{modules_reading}
 use Rattle.frag_tree.specs.declared.phrase.Phrase.TheVariants as phrase
-use Rattle.frag_parse.specs.declared.sign.Sign.TheVariants as sign
-use Rattle.frag_parse.specs.Reading.{Found, blocks_at, head_at, opening_at, phrase_at, register_at, sign_at}
+use Rattle.frag_token.specs.declared.sign.Sign.TheVariants as sign
+use Rattle.frag_token.specs.Reading.{Found, phrase_at, sign_at}
+use Rattle.frag_parts.specs.Reading.{head_at, register_at}
+use Rattle.frag_parse.specs.Reading.{blocks_at, opening_at}
 
 unfoldable pub inner_at : (version : Version) → ℕ → List Word → Found ℕ
 inner_at version unclosed text = if sign_at 11 sign.Hash text then (head_at text >>= λ head. Some (unclosed + 1, head.1)) else ((register_at version) text >>= λ unit. Some (unclosed, unit.1))

@@ -8,12 +8,13 @@ ghost use Rattle.frag_parse.specs.Nesting.{block_within, crate_within};
 ghost use Rattle.frag_parse.specs.Parsing.{IsCrateOf, IsParsedAs, RefusedFor};
 ghost use Rattle.frag_parse.specs.Reading.{blocks_at, crate_at};
 
-use crate::fault::{ParseFault, Refusal, Stop};
+use crate::fault::{ParseFault, Refusal};
 use crate::module::block;
 use crate::opening::opening;
-use crate::starts::Starts;
 use crate::survey::surveyed;
-use crate::token::is_end;
+use frag_token::fault::Stop;
+use frag_token::starts::Starts;
+use frag_token::token::is_end;
 use frag_tree::{Block, Crate, Version};
 use std::alloc::Global;
 

@@ -7,11 +7,11 @@ ghost use Rattle.frag_parse.specs.Nesting.{module_within, nests_within};
 ghost use Rattle.frag_parse.specs.Reading.{block_at, module_at};
 
 use crate::fault::Refusal;
-use crate::head::block_head;
-use crate::register::register;
-use crate::sign::Sign;
-use crate::starts::Starts;
-use crate::token::{expect, is_at, left_at};
+use frag_parts::head::block_head;
+use frag_parts::register::register;
+use frag_token::sign::Sign;
+use frag_token::starts::Starts;
+use frag_token::token::{expect, is_at, left_at};
 use frag_tree::{Block, Module, Phrase, Version};
 use std::alloc::Global;
 

@@ -1,13 +1,14 @@
 ghost use Rattle.std.specs.Prelude.{◌≡◌};
 ghost use Rattle.frag_words.specs.Words.{words_in};
-ghost use Rattle.frag_parse.specs.Reading.{Gives, opening_at, version_at};
+ghost use Rattle.frag_token.specs.Reading.{Gives};
+ghost use Rattle.frag_parse.specs.Reading.{opening_at, version_at};
 
-use crate::fault::Stop;
-use crate::list::{Begins, braced};
-use crate::production::Slots;
-use crate::sign::Sign;
-use crate::starts::Starts;
-use crate::token::{expect, is_at};
+use frag_parts::production::Slots;
+use frag_token::fault::Stop;
+use frag_token::list::{Begins, braced};
+use frag_token::sign::Sign;
+use frag_token::starts::Starts;
+use frag_token::token::{expect, is_at};
 use frag_tree::{Phrase, Slot, Version};
 use pac_base::Seq;
 use std::alloc::Global;

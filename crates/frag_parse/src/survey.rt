@@ -1,15 +1,15 @@
 ghost use Rattle.std.specs.Prelude.{◌≡◌, ◌==◌, ◌&&◌, ◌<◌, ◌+◌, ◌^◌, length};
 ghost use Rattle.frag_words.specs.Words.{words_in};
-ghost use Rattle.frag_parse.specs.Reading.{Gives, is_end};
+ghost use Rattle.frag_token.specs.Reading.{Gives, is_end};
 ghost use Rattle.frag_parse.specs.Survey.{inner_at, step_at, survey_at, surveyed_at};
 
-use crate::fault::Stop;
-use crate::head::block_head;
 use crate::opening::opening;
-use crate::register::register;
-use crate::sign::Sign;
-use crate::starts::Starts;
-use crate::token::{expect, is_at, is_end};
+use frag_parts::head::block_head;
+use frag_parts::register::register;
+use frag_token::fault::Stop;
+use frag_token::sign::Sign;
+use frag_token::starts::Starts;
+use frag_token::token::{expect, is_at, is_end};
 use frag_tree::{Phrase, Version};
 use std::alloc::Global;
 

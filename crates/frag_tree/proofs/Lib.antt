@@ -10,3 +10,4 @@ pub mod RegisterModules
 pub mod ModuleProductions
 pub mod CrateProductions
 pub mod Fine
+pub mod Parts

@@ -39,6 +39,18 @@ crate_lines krate = version_lines krate.version ++ (slots_lines krate.slots ++ f
 abbrev pub printed : CrateTree → List ℕ
 printed krate = lines_text (crate_lines krate)
 
+-- the bytes of a crate up to the line that ends `Peripherals`, that line included
+abbrev pub head_text : Version → List Slot → List ℕ
+head_text version slots = lines_text (version_lines version ++ slots_lines slots)
+
+-- the bytes of a block module at the top, with the empty line before it
+abbrev pub top_text : BlockTree → List ℕ
+top_text unit = lines_text (top_lines unit)
+
+-- the parts of a printed crate: the head, and then each module at the top
+abbrev pub parts_of : CrateTree → List (List ℕ)
+parts_of krate = head_text krate.version krate.slots ∷ map top_text krate.blocks
+
 -- the words of a crate, production by production
 abbrev pub crate_words : CrateTree → List Word
 crate_words krate = lines_words (crate_lines krate)

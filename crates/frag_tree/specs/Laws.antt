@@ -1,7 +1,8 @@
 -- The laws of the words of a crate text.
 use Rattle.std.specs.Prelude.{ℕ, ◌≡◌, List, Some, true}
+use Rattle.std.specs.List.{flat_map}
 use Rattle.frag_words.specs.Words.{words_in}
-use Rattle.frag_tree.specs.Crates.{Parses, printed, crate_words}
+use Rattle.frag_tree.specs.Crates.{Parses, parts_of, printed, crate_words}
 use Rattle.frag_tree.specs.ModuleProductions.{read_crate}
 use Rattle.frag_tree.specs.Trees.{CrateTree}
 use Rattle.frag_tree.specs.Validity.{valid_crate}
@@ -9,6 +10,10 @@ use Rattle.frag_tree.specs.Validity.{valid_crate}
 -- The words of the printed form of a valid crate are the words of its productions, one after the other.
 abbrev pub WordsOfPrinted : Type 0
 WordsOfPrinted = (krate : CrateTree) → valid_crate krate ≡ true → words_in (printed krate) ≡ crate_words krate
+
+-- The parts of a crate, one behind the other, are its printed form.
+abbrev pub PartsArePrinted : Type 0
+PartsArePrinted = (krate : CrateTree) → flat_map (λ part. part) (parts_of krate) ≡ printed krate
 
 -- At most one valid crate fits a text.
 abbrev pub OneCrate : Type 0

@@ -3,7 +3,7 @@ ghost use Rattle.std.specs.List.{flat_map};
 ghost use Rattle.frag_words.specs.Lines.{line, line_text, lines_text};
 ghost use Rattle.pac_io.specs.Writing.{Writes, WritesUpTo, SinkCause};
 ghost use Rattle.frag_tree.specs.Blocks.{block_tree_lines, module_lines, module_opening, modules_lines, opening_lines};
-ghost use Rattle.frag_tree.specs.Crates.{printed, slot_line, slots_lines, top_lines, version_lines};
+ghost use Rattle.frag_tree.specs.Crates.{head_text, printed, slot_line, slots_lines, top_lines, top_text, version_lines};
 ghost use Rattle.frag_tree.specs.Trees.{block_tree, crate_tree, in_line, module_tree};
 
 use crate::block::{Block, Module};
@@ -26,6 +26,32 @@ pub fn print_crate<S: Sink>(alloc: Global, krate: &Crate, sink: &mut S) -> Resul
     push_version(&mut page, krate.version)?;
     push_slots(&mut page, krate.slots.as_slice())?;
     print_blocks(&krate.blocks, &mut page, sink)?;
+    page.finish(sink)
+}
+
+/// Writes the head of a printed crate: its version, the prelude and the slots. The blocks come behind it.
+pub fn print_head<S: Sink>(
+    alloc: Global,
+    version: Version,
+    slots: &[Slot],
+    sink: &mut S,
+) -> Result<(), SinkFault>
+    ensures growth { Writes result (S.written sink.old) (S.written sink.new) (head_text version slots.now) }
+    ensures cause { SinkCause result (S.faults sink.old) (S.faults sink.new) }
+{
+    let mut page = Page::new(alloc);
+    push_version(&mut page, version)?;
+    push_slots(&mut page, slots)?;
+    page.finish(sink)
+}
+
+/// Writes a block module as it stands at the top of a printed crate, behind an empty line.
+pub fn print_top_block<S: Sink>(alloc: Global, block: &Block, sink: &mut S) -> Result<(), SinkFault>
+    ensures growth { Writes result (S.written sink.old) (S.written sink.new) (top_text (block_tree block.now)) }
+    ensures cause { SinkCause result (S.faults sink.old) (S.faults sink.new) }
+{
+    let mut page = Page::new(alloc);
+    print_top(block, &mut page, sink)?;
     page.finish(sink)
 }
 

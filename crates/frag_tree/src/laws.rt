@@ -9,7 +9,7 @@ ghost use Rattle.frag_tree.specs.declared.register.Reader.{Reader};
 ghost use Rattle.frag_tree.specs.declared.register.RegisterModule.{RegisterModule};
 ghost use Rattle.frag_tree.specs.declared.register.Values.{Values};
 ghost use Rattle.frag_tree.specs.declared.register.Writer.{Writer};
-ghost use Rattle.frag_tree.specs.Laws.{OneCrate, ParsesRead, ReadsParsed, WordsOfPrinted};
+ghost use Rattle.frag_tree.specs.Laws.{OneCrate, ParsesRead, PartsArePrinted, ReadsParsed, WordsOfPrinted};
 ghost use Rattle.frag_tree.specs.ModuleProductions.{block_reading, block_words, module_reading, module_words, modules_reading, modules_words, valid_module};
 ghost use Rattle.frag_tree.specs.Productions.{access_reading, access_words, element_reading, element_words, field_reading, field_words, slot_reading, slot_words, type_reading, type_words};
 ghost use Rattle.frag_tree.specs.RegisterProductions.{reader_reading, reader_words, register_reading, register_words, values_reading, values_words, writer_reading, writer_words};
@@ -57,4 +57,9 @@ pub fn crate_law()
     ensures one { OneCrate }
     ensures read { ReadsParsed }
     ensures parsed { ParsesRead }
+{}
+
+/// The parts of a crate, written one behind the other, are its printed form.
+pub fn parts_law()
+    ensures { PartsArePrinted }
 {}

@@ -21,11 +21,11 @@ mod word;
 
 pub use access::{Access, Body};
 pub use block::{Block, Element, FieldType, Module, StructField};
-pub use crate_text::print_crate;
+pub use crate_text::{print_crate, print_head, print_top_block};
 pub use event::{Event, Events, Said};
 pub use identifier::{Identifier, IdentifierFault};
 pub use krate::{Crate, Slot, Version};
-pub use laws::{crate_law, readings_law, words_law};
+pub use laws::{crate_law, parts_law, readings_law, words_law};
 pub use phrase::{Phrase, receiver, receiver_mut};
 pub use register::{
     BitKind, Constant, NumberCall, ReadForm, Reader, RegisterModule, Spot, TruthCall, Values,

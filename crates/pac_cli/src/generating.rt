@@ -5,13 +5,12 @@ ghost use Rattle.pac_cli.specs.Stages.{Does};
 ghost use Rattle.pac_cli.specs.Worlds.{paper};
 
 use crate::resolving::resolve;
-use frag_emit::emit;
-use frag_tree::print_crate;
+use frag_emit::print_text;
 use pac_fault::PacFault;
 use pac_io::Sink;
 use std::alloc::Global;
 
-/// Writes the text of the peripheral access crate of a description.
+/// Writes the text of the peripheral access crate of a description, one module after the other.
 pub(crate) fn generate<S: Sink>(alloc: Global, svd: &[u8], out: &mut S) -> Result<(), PacFault>
     requires { length svd.now ≤ 67_108_864 }
     ensures does { Does (AnswersSource generated (record { svd = svd.now }))
@@ -21,7 +20,6 @@ pub(crate) fn generate<S: Sink>(alloc: Global, svd: &[u8], out: &mut S) -> Resul
     ensures headline { IfOk result (λ _. WritesTextFor (record { svd = svd.now }) (S.written out.old) (S.written out.new)) }
 {
     let state = resolve(alloc, svd)?;
-    let krate = emit(alloc, &state)?;
-    print_crate(alloc, &krate, out)?;
+    print_text(alloc, &state, out)?;
     Ok(())
 }

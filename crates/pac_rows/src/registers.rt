@@ -47,7 +47,7 @@ fn listed_descriptions(rt: HostRuntime) -> Result<(), Fail> {
 }
 
 // Registers of `T`, and the lines that list them.
-const LISTED: [(&str, &str, &str); 9] = [
+const LISTED: [(&str, &str, &str); 10] = [
     (
         "whole_64_bit_word",
         "<register><name>L</name><addressOffset>0</addressOffset><size>64</size><fields><field><name>V</name><bitOffset>0</bitOffset><bitWidth>64</bitWidth></field></fields></register>",
@@ -77,6 +77,11 @@ const LISTED: [(&str, &str, &str); 9] = [
         "forms_of_a_place",
         "<register><name>S</name><addressOffset>4</addressOffset><fields><field><name>E</name><lsb>3</lsb><msb>5</msb><access>read-only</access></field><field><name>P</name><bitWidth>0</bitWidth><lsb>9</lsb><bitRange>[11:10]</bitRange><access>read-only</access></field><field><name>O</name><bitRange>[31:31]</bitRange><access>read-only</access><modifiedWriteValues>oneToClear</modifiedWriteValues></field></fields></register>",
         "T.s 0x40000004 32 ro 0x00000000\n  e [5:3] ro modify\n  p [11:10] ro modify\n  o [31:31] ro oneToClear\n",
+    ),
+    (
+        "list_of_registers",
+        "<register><name>CH%s</name><addressOffset>0</addressOffset><dim>2</dim><dimIncrement>4</dimIncrement></register>",
+        "T.ch0 0x40000000 32 rw 0x00000000\nT.ch1 0x40000004 32 rw 0x00000000\n",
     ),
     (
         "list_by_letters",

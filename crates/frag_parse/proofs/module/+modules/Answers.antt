@@ -5,7 +5,7 @@ use Rattle.frag_tree.specs.Trees.{module_tree}
 use Rattle.frag_tree.specs.declared.block.Block.{Block, roll-Block}
 use Rattle.frag_tree.specs.declared.block.Module.{Module}
 use Rattle.frag_tree.specs.declared.block.Module.TheOpen.{Block-F}
-use Rattle.frag_parse.specs.Depth.{head_told}
+use Rattle.frag_parts.specs.Heads.{head_told}
 use Rattle.frag_parse.proofs.Depth.{block_done, block_stops, block_tree-roll, breaks_off, ends_wrong, goes_on, head_refused, inside_refused, is_done, module_done, register_done, register_refused}
 use Rattle.frag_parse.proofs.ModuleSteps.{all_modules, module_shrinks}
 use Rattle.frag_parse.proofs.module.+modules.Goals as goal

@@ -1,6 +1,6 @@
 use Rattle.std.proofs.Common.{arith}
 use Rattle.frag_words.specs.Words.{words_in}
-use Rattle.frag_parse.specs.Depth.{head_told}
+use Rattle.frag_parts.specs.Heads.{head_told}
 use Rattle.frag_parse.proofs.ModuleSteps.{head_fewer}
 use Rattle.frag_parse.proofs.survey.inner.Goals as goal
 

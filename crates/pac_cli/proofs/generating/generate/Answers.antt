@@ -1,6 +1,6 @@
 use Rattle.std.proofs.lemmas.Result.{err_from_is_err_and}
 use Rattle.frag_tree.specs.Crates.{printed}
-use Rattle.frag_tree.specs.Trees.{crate_tree}
+use Rattle.crate_form.specs.Crates.{emitted}
 use Rattle.pac_cli.specs.Answers.{prints, AnswersSource, generated}
 use Rattle.pac_cli.specs.Worlds.{paper}
 use Rattle.pac_cli.proofs.Doing.{generates_rows, generates_stopped, not_resolved, not_written, writes_text}
@@ -12,25 +12,25 @@ returns-in_err-state-clause-does g c =
     let p = err_from_is_err_and c.from_residual.result c.from_residual.ensures.1 in
     rw (p.1, p.2) (not_resolved generated (source_of c.args.svd.now) (paper (g.S.Sink.written c.args.out.now) (g.S.Sink.faults c.args.out.now)) c.in_err-state.field-0.0 generates_stopped c.in_err-state.ensures)
 
-pub returns-in_err-print_crate-clause-does : goal.returns-in_err-print_crate-clause-does
-returns-in_err-print_crate-clause-does g c =
-    let p = err_from_is_err_and c.from_residual-in_err-print_crate.result c.from_residual-in_err-print_crate.ensures.1 in
-    rw p.1 (not_written (AnswersSource generated (source_of c.args.svd.now)) (prints (printed (crate_tree c.in_ok-krate.krate)))
+pub returns-in_err-print_text-clause-does : goal.returns-in_err-print_text-clause-does
+returns-in_err-print_text-clause-does g c =
+    let p = err_from_is_err_and c.from_residual-in_err-print_text.result c.from_residual-in_err-print_text.ensures.1 in
+    rw p.1 (not_written (AnswersSource generated (source_of c.args.svd.now)) (prints (printed (emitted c.in_ok-state.state)))
     (paper (g.S.Sink.written c.args.out.now) (g.S.Sink.faults c.args.out.now))
-    (paper (g.S.Sink.written c.print_crate.new.sink) (g.S.Sink.faults c.print_crate.new.sink))
-    c.in_err-print_crate.field-0.0 p.0 p.2 (generates_rows (source_of c.args.svd.now) c.in_ok-state.state (crate_tree c.in_ok-krate.krate) c.in_ok-state.ensures c.in_ok-krate.ensures.form)
-    c.in_err-print_crate.ensures.growth
-    c.in_err-print_crate.ensures.cause)
+    (paper (g.S.Sink.written c.print_text.new.sink) (g.S.Sink.faults c.print_text.new.sink))
+    c.in_err-print_text.field-0.0 p.0 p.2 (generates_rows (source_of c.args.svd.now) c.in_ok-state.state (emitted c.in_ok-state.state) c.in_ok-state.ensures c.print_text.ensures.form)
+    c.in_err-print_text.ensures.growth
+    c.in_err-print_text.ensures.cause)
 
 pub returns-clause-does : goal.returns-clause-does
 returns-clause-does g c = record {
-  count = c.in_ok-print_crate.ensures.cause;
-  plan = prints (printed (crate_tree c.in_ok-krate.krate));
-  decided = generates_rows (source_of c.args.svd.now) c.in_ok-state.state (crate_tree c.in_ok-krate.krate) c.in_ok-state.ensures c.in_ok-krate.ensures.form;
-  whole = c.in_ok-print_crate.ensures.growth;
+  count = c.in_ok-print_text.ensures.cause;
+  plan = prints (printed (emitted c.in_ok-state.state));
+  decided = generates_rows (source_of c.args.svd.now) c.in_ok-state.state (emitted c.in_ok-state.state) c.in_ok-state.ensures c.print_text.ensures.form;
+  whole = c.in_ok-print_text.ensures.growth;
 }
 
 pub returns-clause-headline : goal.returns-clause-headline
 returns-clause-headline g c =
-    writes_text (source_of c.args.svd.now) c.in_ok-state.state (crate_tree c.in_ok-krate.krate) (g.S.Sink.written c.args.out.now) (g.S.Sink.written c.print_crate.new.sink)
-    c.in_ok-state.ensures c.in_ok-krate.ensures.valid c.in_ok-krate.ensures.form c.in_ok-krate.ensures.stands c.in_ok-print_crate.ensures.growth
+    writes_text (source_of c.args.svd.now) c.in_ok-state.state (emitted c.in_ok-state.state) (g.S.Sink.written c.args.out.now) (g.S.Sink.written c.print_text.new.sink)
+    c.in_ok-state.ensures c.in_ok-print_text.ensures.valid c.print_text.ensures.form c.print_text.ensures.stands c.in_ok-print_text.ensures.growth

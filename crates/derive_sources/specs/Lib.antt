@@ -1,0 +1,5 @@
+pub mod Numbers
+pub mod Entries
+pub mod Places
+pub mod Missing
+pub mod Laws

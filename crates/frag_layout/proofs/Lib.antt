@@ -1,0 +1,4 @@
+mod Gathered
+mod Placed
+mod Seeking
+mod Walking

@@ -1,6 +1,0 @@
-use Rattle.frag_words.specs.Words.{words_in}
-use Rattle.frag_parse.proofs.Same.{slot_same}
-use Rattle.frag_parse.proofs.production.SlotsProductionSlot.read.Goals as goal
-
-pub returns : goal.returns
-returns c = rw (slot_same (words_in c.args.text.now)) c.slot.ensures

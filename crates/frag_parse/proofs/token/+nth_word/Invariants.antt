@@ -1,4 +1,0 @@
-use Rattle.frag_parse.proofs.token.+nth_word.Given as goal
-
-abbrev pub decreases-nth_word : goal.decreases-nth_word
-decreases-nth_word l = l.place

@@ -1,0 +1,4 @@
+use Rattle.frag_token.proofs.token.+nth_word.Given as goal
+
+abbrev pub decreases-nth_word : goal.decreases-nth_word
+decreases-nth_word l = l.place

@@ -1,0 +1,12 @@
+pub mod Selecting
+pub mod Settings
+pub mod Steps
+pub mod Copying
+pub mod Modifying
+pub mod Additions
+pub mod Stripping
+pub mod Likeness
+pub mod Arrays
+pub mod Patching
+pub mod Laws
+pub mod Worked

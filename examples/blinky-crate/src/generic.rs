@@ -1,0 +1,1 @@
+../../../support/generic.rs
