@@ -1,11 +1,14 @@
-// Typing of scripts against a crate that fits: a script that passes is a type of its own, and one that is
-// refused comes back with its first line that doesn't type, and the kind of the leftmost word at which a rule fails.
+// Typing of crate texts, and of scripts against a crate that fits: a crate or a script that passes is a type of its
+// own, and one that is refused comes back: a crate with the kind of the first rule that fails and the byte of the
+// item at fault, a script with its first line that doesn't type, and the kind of the leftmost word at which a rule
+// fails.
 #![tactic(auto)]
 
 mod at;
 mod chain;
 mod fault;
 mod field;
+mod krate;
 mod named;
 mod names;
 mod place;
@@ -18,5 +21,6 @@ mod value_type;
 
 pub use fault::{CrateFault, CrateTyping};
 pub use frag_script::{ScriptFault, ScriptTyping};
+pub use krate::type_crate;
 pub use script::type_script;
 pub use typed::{TypedCrate, TypedScript};

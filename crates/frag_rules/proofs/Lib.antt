@@ -1,0 +1,15 @@
+mod Distinct
+mod Entries
+mod Firsts
+mod Gathering
+mod Insides
+mod Keys
+mod Measuring
+mod Misfits
+mod PreludeWords
+mod RegisterTests
+mod Results
+mod Rooms
+mod Sizes
+mod BlockTests
+mod ByName

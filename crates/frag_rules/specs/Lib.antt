@@ -1,0 +1,10 @@
+pub mod Bodies
+pub mod Elements
+pub mod Gathering
+pub mod Held
+pub mod Insides
+pub mod Keys
+pub mod Measures
+pub mod Naming
+pub mod Parts
+pub mod Rules
