@@ -3,3 +3,4 @@ pub mod Seats
 pub mod Listed
 pub mod Indexes
 pub mod Told
+pub mod Parts

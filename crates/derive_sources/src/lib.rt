@@ -5,6 +5,7 @@
 mod device;
 mod entry;
 mod finding;
+mod graph;
 mod index;
 mod laws;
 mod listing;
@@ -13,5 +14,6 @@ mod source;
 pub use device::{Sourced, sources_of};
 pub use entry::{Entry, Kind};
 pub use finding::{SourceFault, sources};
+pub use graph::needs_of;
 pub use laws::numbers_law;
 pub use listing::entries_of;

@@ -1,5 +1,5 @@
 //! The elements of a device in document order.
-ghost use Rattle.std.specs.Prelude.{◌≡◌, ◌∷◌, ◌++◌, [], ℕ, None, Some, IfOk, OnOk, map, option_map};
+ghost use Rattle.std.specs.Prelude.{◌≡◌, ◌∷◌, ◌++◌, [], ℕ, None, Some, IfOk, OnOk, map, option_map, unwrap_or};
 ghost use Rattle.derive_sources.specs.Entries.{plain, kind_of, Lists, ListsAll, register_under, cluster_under, set_under};
 ghost use Rattle.derive_sources.specs.Numbers.{items_of};
 ghost use Rattle.svd_model.specs.Steps.{set, value};
@@ -26,7 +26,7 @@ fn lent(path: &Option<Path>) -> Option<&Path>
 
 /// The bytes of a name, none where there is no name.
 fn bytes_of(name: &Option<Name>) -> &[u8]
-    ensures { result.now ≡ Rattle.std.specs.Prelude.unwrap_or name.now [] }
+    ensures { result.now ≡ unwrap_or name.now [] }
 {
     match name {
         Some(name) => name.bytes(),

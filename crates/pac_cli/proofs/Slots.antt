@@ -116,6 +116,7 @@ module _ {B : Type 0} (told : B → BusTold) (kind : BusKind) (lent : List (BusS
       where
         now_there : Slot
         now_there = record { kind = kind; told = told after }
+
         set_there : slice_get (slice_set slots place now_there) place ≡ Some now_there
         set_there =
             let inside : place < length slots = subst (λ (n : ℕ). place < n) (sym (length-map lent as_slot)) within in
@@ -136,6 +137,7 @@ none_more kind kinds count none next = λ k inside. by k (nat_lt k count) refl i
   where
     here : (k : ℕ) → nat_lt k count ≡ false → k < count + 1 → k ≡ count
     here k test inside = let past : count ≤ k = grind (arith, nat_tests, test) in omega (arith, past, inside)
+
     by : (k : ℕ) (b : Bool) → nat_lt k count ≡ b → k < count + 1 → same_kind (slice_index_or kinds k kind) kind ≡ false
     by k true test inside = none k (below k count test)
     by k false test inside = subst (λ (n : ℕ). same_kind (slice_index_or kinds n kind) kind ≡ false) (sym (here k test inside)) next

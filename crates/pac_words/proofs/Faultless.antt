@@ -230,20 +230,26 @@ told_named name rows some = at_list (bytes_eq name (codes "list")) refl some
   where
     has_bus : IsSome (bus_of rows) → Named name rows
     has_bus bus = either_named (bytes_eq name (codes "exec")) (bytes_eq name (codes "run")) (is_some (bus_of rows)) bus
+
     same : (word : Text) → bytes_eq name word ≡ true → runs_script word ≡ false → Named name rows
     same word is other = ap (λ b. not b || is_some (bus_of rows)) (ap runs_script ((bytes_eq-Decides name word).0 is) ∙ other)
+
     neither : (one other : Bool) → one ≡ false → other ≡ false → (not (one || other) || is_some (bus_of rows)) ≡ true
     neither one other first second = ap₂ (λ a b. not (a || b) || is_some (bus_of rows)) first second
+
     at_run : (b : Bool) → bytes_eq name (codes "exec") ≡ false → bytes_eq name (codes "run") ≡ b → IsSome (if b then running rows else None) → Named name rows
     at_run true before is some = has_bus (running_named rows (source_of rows) (run_of rows) refl some)
     at_run false before is some = neither (bytes_eq name (codes "exec")) (bytes_eq name (codes "run")) before is
+
     at_exec : (b : Bool) → bytes_eq name (codes "exec") ≡ b → IsSome (if b then executing rows else (if bytes_eq name (codes "run") then running rows else None)) → Named name rows
     at_exec true is some = has_bus (executing_named rows (first_of (codes "crate") rows) (run_of rows) refl some)
     at_exec false is some = at_run (bytes_eq name (codes "run")) is refl some
+
     at_generate : (b : Bool) → bytes_eq name (codes "generate") ≡ b
         → IsSome (if b then generating rows else (if bytes_eq name (codes "exec") then executing rows else (if bytes_eq name (codes "run") then running rows else None))) → Named name rows
     at_generate true is some = same (codes "generate") is refl
     at_generate false is some = at_exec (bytes_eq name (codes "exec")) refl some
+
     at_list : (b : Bool) → bytes_eq name (codes "list") ≡ b
         → IsSome (if b then listing rows else (if bytes_eq name (codes "generate") then generating rows else (if bytes_eq name (codes "exec") then executing rows else (if bytes_eq name (codes "run") then running rows else None)))) → Named name rows
     at_list true is some = same (codes "list") is refl

@@ -1,5 +1,5 @@
 -- Worked rows: what words ask for, computed.
-use Rattle.std.proofs.Common.{◌≡◌, refl, Option, Some, None, List, [], ◌∷◌, ℕ, codes, Bool, true, false}
+use Rattle.std.proofs.Common.{◌≡◌, refl, Option, Some, None, List, [], ◌∷◌, ℕ, codes, true, false}
 use Rattle.clap.proofs.OnLiterals.{clap_on_literals}
 use Rattle.pac_words.specs.Commands.{command_of}
 use Rattle.pac_words.specs.declared.command.Command.{Command}

@@ -31,7 +31,7 @@ pub returns-in_err-find_bus-clause-stands : goal.returns-in_err-find_bus-clause-
 returns-in_err-find_bus-clause-stands g c =
     let p = err_from_is_err_and c.from_residual-in_err-find_bus.result c.from_residual-in_err-find_bus.ensures.1 in
     let now = world (shelf (g.F.Files.told c.args.files.now) (g.F.Files.asked c.args.files.now) (g.F.Files.faults c.args.files.now))
-        (paper (g.S.Sink.written c.args.out.now) (g.S.Sink.faults c.args.out.now)) (slots_of g.B.Bus.told c.args.buses.now.items) in
+    (paper (g.S.Sink.written c.args.out.now) (g.S.Sink.faults c.args.out.now)) (slots_of g.B.Bus.told c.args.buses.now.items) in
     let missing = ap (λ (all : List _). missing_kind (bus_of c.in_ok-command.command) (kinds_of (slots_of g.B.Bus.told all))) (sym c.as_slice.ensures.value) in
     rw (p.1, p.2) (no_bus_lent c.args.words.now c.in_ok-command.command c.in_ok-command.ensures now c.in_err-find_bus.field-0.0 c.in_err-find_bus.ensures.0 (missing ∙ c.in_err-find_bus.ensures.1) c.in_err-find_bus.ensures.2)
 
