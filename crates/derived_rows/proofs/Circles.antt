@@ -1,5 +1,5 @@
 -- A circle passes an element that states a source.
-use Rattle.std.proofs.Common.{◌≡◌, ◌⊎◌, inl, inr, ◌+◌, ◌<◌, true, false, List, [], ◌∷◌, ◌++◌, map, length, Option, None, Some, is_some, refl, sym, ap, ◌∙◌, subst, arith, lt_trans, lt_irrefl}
+use Rattle.std.proofs.Common.{◌≡◌, ◌⊎◌, inl, inr, ◌+◌, ◌<◌, true, false, List, [], ◌∷◌, ◌++◌, length, Option, None, Some, is_some, refl, sym, ap, ◌∙◌, subst, arith, lt_trans, lt_irrefl}
 use Rattle.std.specs.List.{AllByRecursion}
 use Rattle.std.specs.Set.{is_member}
 use Rattle.std.proofs.lemmas.Bool.{cases_Bool, and_from, true≢false}
@@ -7,7 +7,7 @@ use Rattle.std.proofs.lemmas.List.{length_push}
 use Rattle.std.proofs.lemmas.Map.Made.{is_member-filter}
 use Rattle.derived_rows.specs.Dependence.{same_path, IsAmong, IsChain, IsOnCircle, HasNoCircle, listed, dependences, deriving_paths}
 use Rattle.derived_rows.specs.Laws.{CirclesDerive}
-use Rattle.derived_rows.specs.Sources.{children_at, kind_at, source_names, sought_from, source_of}
+use Rattle.derived_rows.specs.Sources.{children_at, child_paths, kind_at, source_names, sought_from, source_of}
 use Rattle.derived_rows.proofs.Paths.{same_path-tells, equivalence, member-cases, member-append, member-map}
 use Rattle.derived_rows.proofs.Stand.{dependence-stands}
 use Rattle.pac_base.specs.declared.path.Step.{Step as Written}
@@ -37,8 +37,8 @@ module _ (all : List (Row Step Key)) where
 
   -- an element that states no source depends on longer paths alone
   longer : (path other : List Step) → is_some (source_names all path) ≡ false → IsAmong (dependences all path) other → length path < length other
-  unfolding dependences
-  longer path other none h = elim (member-append same_path same_path-tells (listed (source_of all path)) (map (λ child. path ++ child ∷ []) (children_at all path)) other h) [
+  unfolding dependences child_paths
+  longer path other none h = elim (member-append same_path same_path-tells (listed (source_of all path)) (child_paths all path) other h) [
     | inl p ↦ absurd (true≢false (sym p ∙ ap (λ o. is_member same_path (listed o) other) (no_source path none)))
     | inr p ↦ let r = member-map same_path same_path-tells same_step same_step-tells (λ child. path ++ child ∷ []) (children_at all path) other p in
         let long : length other ≡ length path + 1 = ap length r.2 ∙ length_push path r.0 in omega (arith, long)

@@ -158,7 +158,7 @@ among-element path keys children h =
     ]
 
 -- the last step of a longer path
-kind-last : (path : List Step) (step : Step) → kind_at (path ++ step ∷ []) ≡ Some step.kind
+pub kind-last : (path : List Step) (step : Step) → kind_at (path ++ step ∷ []) ≡ Some step.kind
 unfolding kind_at
 kind-last [] step = refl
 kind-last (x ∷ []) step = refl
@@ -169,7 +169,7 @@ unfolding begins
 begins-front [] down = refl
 begins-front (step ∷ path) down = and_from (same_step step step) (begins (exactly same_step path) (path ++ down)) (same_step-tells.itself step) (begins-front path down)
 
-drop-front : (path down : List Step) → drop (length path) (path ++ down) ≡ down
+pub drop-front : (path down : List Step) → drop (length path) (path ++ down) ≡ down
 drop-front [] down = refl
 drop-front (step ∷ path) down = drop-front path down
 

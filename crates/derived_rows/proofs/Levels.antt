@@ -9,7 +9,7 @@ use Rattle.std.proofs.lemmas.Map.Made.{length-le_from_is_member}
 use Rattle.derived_rows.specs.Dependence.{same_path, IsAmong, IsChain, IsOnCircle, HasNoCircle, listed, dependences}
 use Rattle.derived_rows.specs.Deriving.{derived_by, derived_at, Part, own_parts, with_source}
 use Rattle.derived_rows.specs.Laws.{LevelsAreEnough}
-use Rattle.derived_rows.specs.Sources.{children_at, source_of}
+use Rattle.derived_rows.specs.Sources.{children_at, child_paths, source_of}
 use Rattle.derived_rows.proofs.Paths.{same_path-tells, equivalence, member-cases, member-head, member-tail, member-left, member-right, member-mapped}
 use Rattle.derived_rows.proofs.Stand.{dependence-stands}
 use Rattle.need_order.specs.Levels.{by_levels}
@@ -33,11 +33,11 @@ module _ (all : List (Row Step Key)) where
 
   -- an element is made of those on which it depends alone
   pub made_of : (f g : List Step → List (Row Step Key)) (path : List Step) → ((other : List Step) → IsAmong (dependences all path) other → f other ≡ g other) → derived_by all f path ≡ derived_by all g path
-  unfolding derived_by dependences
+  unfolding derived_by dependences child_paths
   made_of f g path agree =
       ap₂ (with_source path (keys_at all path))
-      (own-parts-agree f g path (λ child h. agree (path ++ child ∷ []) (member-right same_path same_path-tells (listed (source_of all path)) (map (λ s. path ++ s ∷ []) (children_at all path)) (path ++ child ∷ []) (member-mapped same_path same_path-tells same_step same_step-tells (λ s. path ++ s ∷ []) (children_at all path) child h))))
-      (by (source_of all path) (λ other h. agree other (member-left same_path same_path-tells (listed (source_of all path)) (map (λ s. path ++ s ∷ []) (children_at all path)) other h)))
+      (own-parts-agree f g path (λ child h. agree (path ++ child ∷ []) (member-right same_path same_path-tells (listed (source_of all path)) (child_paths all path) (path ++ child ∷ []) (member-mapped same_path same_path-tells same_step same_step-tells (λ s. path ++ s ∷ []) (children_at all path) child h))))
+      (by (source_of all path) (λ other h. agree other (member-left same_path same_path-tells (listed (source_of all path)) (child_paths all path) other h)))
     where
       by : (o : Option (List Step)) → ((other : List Step) → IsAmong (listed o) other → f other ≡ g other) → option_map f o ≡ option_map g o
       by None same = refl

@@ -1,12 +1,12 @@
 -- What an element depends on are elements.
 use Rattle.std.specs.Prelude.{⊤}
-use Rattle.std.proofs.Common.{◌≡◌, inl, inr, Bool, true, false, cond, List, [], ◌∷◌, ◌++◌, map, filter, filter_map, length, drop, Option, None, Some, option_map, option_and_then, refl, sym, ap, ◌∙◌, subst}
+use Rattle.std.proofs.Common.{◌≡◌, inl, inr, Bool, true, false, cond, List, [], ◌∷◌, ◌++◌, map, filter, filter_map, length, drop, Option, None, Some, option_and_then, refl, sym, ap, ◌∙◌, subst}
 use Rattle.std.specs.List.{find, cons_option}
 use Rattle.std.specs.Option.{option_or}
 use Rattle.std.specs.Set.{is_member}
 use Rattle.std.proofs.lemmas.Bool.{and_parts, true≢false}
 use Rattle.derived_rows.specs.Dependence.{same_path, IsAmong, listed, dependences}
-use Rattle.derived_rows.specs.Sources.{children_at, has_name, named_child, followed, of_kind, reached, second_try, source_among, source_names, sought_from, source_of, kind_at, ancestors}
+use Rattle.derived_rows.specs.Sources.{children_at, has_name, is_set_named, child_paths, named_child, followed, of_kind, reached, second_try, source_among, source_names, sought_from, source_of, kind_at, ancestors}
 use Rattle.derived_rows.proofs.Paths.{same_path-tells, member-cases, member-head, member-tail, member-append, member-map}
 use Rattle.pac_base.specs.declared.path.Step.{Step as Written}
 use Rattle.svd_model.specs.Keys.{Key}
@@ -15,7 +15,7 @@ use Rattle.svd_model.specs.Stating.{paths_of, is_of}
 use Rattle.svd_model.specs.Steps.{Step, Kind, peripheral, cluster, register, field, set, value, same_step}
 use Rattle.svd_model.proofs.Steps.{same_step-tells}
 use Rattle.svd_rows.specs.LookUps.{inside, seen_below, child_step, children_of, ends_with}
-use Rattle.svd_rows.specs.Paths.{begins, exactly, is_within}
+use Rattle.svd_rows.specs.Paths.{begins, exactly, fits, is_within}
 use Rattle.svd_rows.specs.Rows.{Row, Said, element, states, is_element}
 
 -- a path that begins as another is that one and what is left of it
@@ -66,14 +66,14 @@ child-stands (row ∷ all) path child h = at (child-stands all path child) (begi
     at again false e p = later (again p)
     at again true e p = here again (drop (length path) row.path) row.said (begins-drop path row.path e) p
 
--- what is found among items is one of them
-find-member : (test : Step → Bool) (steps : List Step) (step : Step) → find test steps ≡ Some step → is_member same_step steps step ≡ true
-find-member test [] step e = absurd cc
-find-member test (x ∷ steps) step e = at (find-member test steps step) (test x) e
+-- what is found among paths is one of them
+find-member : (test : List Step → Bool) (paths : List (List Step)) (path : List Step) → find test paths ≡ Some path → IsAmong paths path
+find-member test [] path e = absurd cc
+find-member test (x ∷ paths) path e = at (find-member test paths path) (test x) e
   where
-    at : (find test steps ≡ Some step → is_member same_step steps step ≡ true) → (b : Bool) → cond b (Some x) (find test steps) ≡ Some step → is_member same_step (x ∷ steps) step ≡ true
-    at again true p = let same : x ≡ step = cc in subst (λ (z : Step). is_member same_step (x ∷ steps) z ≡ true) same (member-head same_step same_step-tells x steps)
-    at again false p = member-tail same_step same_step-tells x steps step (again p)
+    at : (find test paths ≡ Some path → IsAmong paths path) → (b : Bool) → cond b (Some x) (find test paths) ≡ Some path → IsAmong (x ∷ paths) path
+    at again true p = let same : x ≡ path = cc in subst (IsAmong (x ∷ paths)) same (member-head same_path same_path-tells x paths)
+    at again false p = member-tail same_path same_path-tells x paths path (again p)
 
 module _ (all : List (Row Step Key)) where
   -- where there is a path it is that of an element
@@ -81,13 +81,23 @@ module _ (all : List (Row Step Key)) where
   Stands None = ⊤
   Stands (Some path) = IsAmong (paths_of all) path
 
+  -- what is found among the elements is one of them
+  find-stands : (test : List Step → Bool) → Stands (find test (paths_of all))
+  find-stands test = at (find test (paths_of all)) refl
+    where
+      at : (o : Option (List Step)) → find test (paths_of all) ≡ o → Stands o
+      at None e = tt
+      at (Some path) e = find-member test (paths_of all) path e
+
+  pub child-paths-stand : (path other : List Step) → IsAmong (child_paths all path) other → IsAmong (paths_of all) other
+  unfolding child_paths
+  child-paths-stand path other h =
+      let r = member-map same_path same_path-tells same_step same_step-tells (λ child. path ++ child ∷ []) (children_at all path) other h in
+      subst (IsAmong (paths_of all)) (sym r.2) (child-stands all path r.0 r.1)
+
   named-stands : (name : Written) (path : List Step) → Stands (named_child all name path)
   unfolding named_child
-  named-stands name path = at (find (has_name name) (children_at all path)) refl
-    where
-      at : (o : Option Step) → find (has_name name) (children_at all path) ≡ o → Stands (option_map (λ child. path ++ child ∷ []) o)
-      at None e = tt
-      at (Some child) e = child-stands all path child (find-member (has_name name) (children_at all path) child e)
+  named-stands name path = find-stands (fits (exactly same_step path ++ has_name name ∷ []))
 
   followed-stands : (names : List Written) (path : List Step) → IsAmong (paths_of all) path → Stands (followed all names path)
   unfolding followed
@@ -126,7 +136,7 @@ module _ (all : List (Row Step Key)) where
   second-stands : (kind : Kind) (names : List Written) (around : List (List Step)) → Stands (second_try all kind names around)
   unfolding second_try
   second-stands set (name ∷ []) (parent ∷ outer ∷ others) =
-      nearest-stands (λ s. reached all set (name ∷ []) (outer ++ s ∷ [])) (λ s. reached-stands set (name ∷ []) (outer ++ s ∷ [])) (children_at all outer)
+      find-stands (fits (exactly same_step outer ++ (λ step. true) ∷ is_set_named name ∷ []))
   second-stands set [] around = tt
   second-stands set (name ∷ []) [] = tt
   second-stands set (name ∷ []) (parent ∷ []) = tt
@@ -156,10 +166,9 @@ module _ (all : List (Row Step Key)) where
   -- what an element depends on is an element
   pub dependence-stands : (path other : List Step) → IsAmong (dependences all path) other → IsAmong (paths_of all) other
   unfolding dependences
-  dependence-stands path other h = elim (member-append same_path same_path-tells (listed (source_of all path)) (map (λ child. path ++ child ∷ []) (children_at all path)) other h) [
+  dependence-stands path other h = elim (member-append same_path same_path-tells (listed (source_of all path)) (child_paths all path) other h) [
     | inl p ↦ by (source_of all path) (source-stands path) p
-    | inr p ↦ let r = member-map same_path same_path-tells same_step same_step-tells (λ child. path ++ child ∷ []) (children_at all path) other p in
-        subst (IsAmong (paths_of all)) (sym r.2) (child-stands all path r.0 r.1)
+    | inr p ↦ child-paths-stand path other p
   ]
     where
       by : (o : Option (List Step)) → Stands o → IsAmong (listed o) other → IsAmong (paths_of all) other

@@ -1,8 +1,8 @@
 -- Which elements another depends on when it is derived, and circles of that (this project's own rule).
-use Rattle.std.specs.Prelude.{◌≡◌, Bool, true, List, [], ◌∷◌, ◌++◌, map, Option, None, Some, is_some, filter}
+use Rattle.std.specs.Prelude.{◌≡◌, Bool, true, List, [], ◌∷◌, ◌++◌, Option, None, Some, is_some, filter}
 use Rattle.std.specs.List.{AllByRecursion}
 use Rattle.std.specs.Set.{is_member}
-use Rattle.derived_rows.specs.Sources.{children_at, source_names, source_of}
+use Rattle.derived_rows.specs.Sources.{child_paths, source_names, source_of}
 use Rattle.svd_model.specs.Keys.{Key}
 use Rattle.svd_model.specs.Stating.{paths_of}
 use Rattle.svd_model.specs.Steps.{Step, same_step}
@@ -23,7 +23,7 @@ listed (Some x) = x ∷ []
 
 -- an element depends on its source and on its children
 unfoldable pub dependences : List (Row Step Key) → List Step → List (List Step)
-dependences all path = listed (source_of all path) ++ map (λ child. path ++ child ∷ []) (children_at all path)
+dependences all path = listed (source_of all path) ++ child_paths all path
 
 -- the first depends on the first of these, each of them on the next, and the last of them on the other end
 unfoldable pub IsChain : List (Row Step Key) → List Step → List (List Step) → List Step → Type 0

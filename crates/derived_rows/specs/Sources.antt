@@ -1,15 +1,16 @@
 -- From which element another is derived (CMSIS-SVD 1.3, `derivedFrom`). That names are followed from each element round
 -- it, the nearest first, and that a set may be named in another field, are this project's own rules.
-use Rattle.std.specs.Prelude.{Bool, ◌&&◌, not, List, [], ◌∷◌, ◌++◌, map, reverse, drop, Option, None, Some, option_map, option_and_then, if◌then◌else◌}
+use Rattle.std.specs.Prelude.{Bool, true, ◌&&◌, not, List, [], ◌∷◌, ◌++◌, map, reverse, drop, Option, None, Some, option_and_then, if◌then◌else◌}
 use Rattle.std.specs.List.{find}
 use Rattle.std.specs.Option.{option_or}
 use Rattle.std.specs.Str.{bytes_eq}
 use Rattle.pac_base.specs.declared.path.Step.{Step as Written}
 use Rattle.svd_model.specs.Keys.{Key, derived_from}
 use Rattle.svd_model.specs.Properties.{nearest}
-use Rattle.svd_model.specs.Stating.{value_of, keys_at, ways_down, is_of}
-use Rattle.svd_model.specs.Steps.{Step, Kind, set, same_step}
+use Rattle.svd_model.specs.Stating.{value_of, keys_at, paths_of, ways_down, is_of}
+use Rattle.svd_model.specs.Steps.{Step, Kind, set, same_kind, same_step}
 use Rattle.svd_rows.specs.LookUps.{inside, children_of, ends_with}
+use Rattle.svd_rows.specs.Paths.{exactly, fits}
 use Rattle.svd_rows.specs.Rows.{Row}
 
 -- the names that a key gives of a source
@@ -31,9 +32,13 @@ has_name name step = not (bytes_eq step.name []) && bytes_eq name.name step.name
 abbrev pub children_at : List (Row Step Key) → List Step → List Step
 children_at all path = children_of (inside same_step path all)
 
+-- the paths of the children of the element of a path, in document order
+unfoldable pub child_paths : List (Row Step Key) → List Step → List (List Step)
+child_paths all path = map (λ child. path ++ child ∷ []) (children_at all path)
+
 -- the path of the first child of this name
 unfoldable pub named_child : List (Row Step Key) → Written → List Step → Option (List Step)
-named_child all name path = option_map (λ child. path ++ child ∷ []) (find (has_name name) (children_at all path))
+named_child all name path = find (fits (exactly same_step path ++ has_name name ∷ [])) (paths_of all)
 
 -- where these names lead to from a path
 unfoldable pub followed : List (Row Step Key) → List Written → List Step → Option (List Step)
@@ -55,13 +60,14 @@ reached all kind (name ∷ names) path = option_and_then (of_kind kind) (followe
 abbrev pub ancestors : List Step → List (List Step)
 ancestors path = drop 1 (reverse (ways_down path))
 
--- the first set that is reached from a field of a register, in document order
-abbrev pub set_within : List (Row Step Key) → List Written → List Step → Option (List Step)
-set_within all names register = nearest (map (λ field. reached all set names (register ++ field ∷ [])) (children_at all register))
+-- the step is that of a set of this name
+abbrev pub is_set_named : Written → Step → Bool
+is_set_named name step = same_kind set step.kind && has_name name step
 
--- a set with one name is sought among all fields of its register too
+-- a set with one name is sought among all sets of its register too, in document order
 unfoldable pub second_try : List (Row Step Key) → Kind → List Written → List (List Step) → Option (List Step)
-second_try all set (name ∷ []) (field ∷ register ∷ outer) = set_within all (name ∷ []) register
+second_try all set (name ∷ []) (parent ∷ outer ∷ others) =
+    find (fits (exactly same_step outer ++ (λ step. true) ∷ is_set_named name ∷ [])) (paths_of all)
 second_try all kind names around = None
 
 -- the first element of this kind that names reach from those round an element

@@ -19,6 +19,8 @@ mod numbers;
 #[cfg(test)]
 mod orders;
 #[cfg(test)]
+mod overlaps;
+#[cfg(test)]
 mod pages;
 #[cfg(test)]
 mod parts;

@@ -1,11 +1,11 @@
 -- The places that a script calls, one after the other: of each the first.
-use Rattle.std.proofs.Common.{ℕ, ◌≡◌, Bool, true, false, not, ◌||◌, cond, List, [], ◌∷◌, ◌++◌, map, filter, filter_map, Option, Some, None, option_map, bytes_eq, refl, sym, ap, ap₂, subst, ◌∙◌, append_assoc, arith}
+use Rattle.std.proofs.Common.{ℕ, ◌≡◌, Bool, true, false, not, ◌||◌, cond, List, [], ◌∷◌, ◌++◌, map, filter, filter_map, Option, Some, None, option_map, bytes_eq, refl, sym, ap, ap₂, subst, ◌∙◌, append_assoc, arith, Vec, Global}
 use Rattle.std.specs.Prelude.{if◌then◌else◌}
 use Rattle.std.specs.List.{list_any, cons_option}
 use Rattle.std.specs.Cmp.Lexicographic.{pointwise}
 use Rattle.std.proofs.lemmas.Bool.{false≢true}
 use Rattle.std.proofs.lemmas.Bool.Decides.{nat_tests}
-use Rattle.std.proofs.lemmas.List.{append-nil, map-append}
+use Rattle.std.proofs.lemmas.List.{append-nil}
 use Rattle.std.proofs.lemmas.Slice.Eq.{bytes_eq-Decides}
 use Rattle.frag_tree.specs.declared.statement.Call.{Call}
 use Rattle.frag_tree.specs.declared.statement.Place.{Place}
@@ -15,7 +15,8 @@ use Rattle.frag_tree.specs.Trees.{CrateTree}
 use Rattle.frag_sem.specs.Presets.{Preset, called, called_places, first_of_each, preset_of, presets, same_index, same_place, same_step}
 use Rattle.frag_sem.specs.TextMeaning.{acts_at, text_at, text_presets}
 use Rattle.frag_sem.proofs.Lists.{both_true}
-use Rattle.std.specs.Borrow.{Bor}
+use Rattle.frag_eval.specs.declared.keys.PlaceKey.{PlaceKey}
+use Rattle.frag_eval.specs.Keys.{key_seen}
 use Rattle.pac_bus.specs.declared.access.Preset.{Preset as BusPreset}
 use Rattle.frag_sem.specs.CallPlaces.{RegisterAt, register_at}
 use Rattle.frag_eval.specs.declared.preset.Called.{Called}
@@ -155,10 +156,6 @@ gathered_all krate script rest seen gathered none so_far =
 
 -- ---- one place
 
-any_map : (xs : List (Bor Place)) (place : Place) → list_any (λ other. same_place other.now place) xs ≡ is_seen (map (λ other. other.now) xs) place
-any_map [] place = refl
-any_map (x ∷ xs) place = ap (λ b. same_place x.now place || b) (any_map xs place)
-
 more_presets : (krate : CrateTree) (seen : List Place) (place : Place) → presets_at krate (seen ++ place ∷ []) ≡ presets_at krate seen ++ preset_at (register_at krate place)
 more_presets krate [] place = by (register_at krate place)
   where
@@ -171,28 +168,34 @@ more_presets krate (first ∷ seen) place = by (option_map preset_of (text_at kr
     by None more = more
     by (Some preset) more = ap (λ l. preset ∷ l) more
 
-pub place_again : (krate : CrateTree) (place : Place) (gathered : Called) (b : Bool) (seen : List (Bor Place)) → seen ≡ gathered.seen.items → b ≡ list_any (λ other. same_place other.now place) seen → b ≡ true → AddsPlace krate place gathered gathered
-place_again krate place gathered b seen are is taken =
-    let known : is_seen (places_seen gathered) place ≡ true = sym (is ∙ (ap (list_any (λ other. same_place other.now place)) are ∙ any_map gathered.seen.items place)) ∙ taken in
+taken_in : (seen now : List Place) (place : Place) (fresh : Bool) → fresh ≡ not (is_seen seen place) → now ≡ (if fresh then seen ++ place ∷ [] else seen) → now ≡ (if is_seen seen place then seen else seen ++ place ∷ [])
+taken_in seen now place fresh is kept = kept ∙ (ap (λ b. if b then seen ++ place ∷ [] else seen) is ∙ turned (is_seen seen place))
+  where
+    turned : (b : Bool) → (if not b then seen ++ place ∷ [] else seen) ≡ (if b then seen else seen ++ place ∷ [])
+    turned true = refl
+    turned false = refl
+
+pub place_again : (krate : CrateTree) (place : Place) (old now : Called) (fresh : Bool) → fresh ≡ not (is_seen (places_seen old) place) → places_seen now ≡ (if fresh then places_seen old ++ place ∷ [] else places_seen old) → fresh ≡ false → now.presets ≡ old.presets → AddsPlace krate place old now
+place_again krate place old now fresh is kept again same =
+    let places : places_seen now ≡ places_seen old = kept ∙ ap (λ b. if b then places_seen old ++ place ∷ [] else places_seen old) again in
     record {
-      places = sym (ap (λ b. if b then places_seen gathered else places_seen gathered ++ place ∷ []) known);
-      presets = λ h. h;
+      places = taken_in (places_seen old) (places_seen now) place fresh is kept;
+      presets = λ h. ap (λ (v : Vec BusPreset Global). map preset_seen v.items) same ∙ (h ∙ ap (presets_at krate) (sym places));
     }
 
-pub place_new : (krate : CrateTree) (place : Bor Place) (old now : Called) (b : Bool) (seen : List (Bor Place)) (found : Option RegisterAt) → seen ≡ old.seen.items → b ≡ list_any (λ other. same_place other.now place.now) seen → b ≡ false
-    → found ≡ register_at krate place.now → map preset_seen now.presets.items ≡ map preset_seen old.presets.items ++ preset_at found → now.seen.items ≡ old.seen.items ++ place ∷ [] → AddsPlace krate place.now old now
-place_new krate place old now b seen found are is fresh at presets-are seen-is =
-    let known : is_seen (places_seen old) place.now ≡ false = sym (is ∙ (ap (list_any (λ other. same_place other.now place.now)) are ∙ any_map old.seen.items place.now)) ∙ fresh in
-    let places : places_seen now ≡ places_seen old ++ place.now ∷ [] = ap (map (λ other. other.now)) seen-is ∙ map-append (λ other. other.now) old.seen.items (place ∷ []) in
+pub place_new : (krate : CrateTree) (place : Place) (old now : Called) (fresh : Bool) (found : Option RegisterAt) → fresh ≡ not (is_seen (places_seen old) place) → places_seen now ≡ (if fresh then places_seen old ++ place ∷ [] else places_seen old) → fresh ≡ true
+    → found ≡ register_at krate place → map preset_seen now.presets.items ≡ map preset_seen old.presets.items ++ preset_at found → AddsPlace krate place old now
+place_new krate place old now fresh found is kept new at presets-are =
+    let places : places_seen now ≡ places_seen old ++ place ∷ [] = kept ∙ ap (λ b. if b then places_seen old ++ place ∷ [] else places_seen old) new in
     record {
-      places = places ∙ sym (ap (λ b. if b then places_seen old else places_seen old ++ place.now ∷ []) known);
+      places = taken_in (places_seen old) (places_seen now) place fresh is kept;
       presets = λ h.
           presets-are ∙ (ap (λ l. l ++ preset_at found) h ∙ (ap (λ (o : Option RegisterAt). presets_at krate (places_seen old) ++ preset_at o) at
-          ∙ (sym (more_presets krate (places_seen old) place.now) ∙ ap (presets_at krate) (sym places))));
+          ∙ (sym (more_presets krate (places_seen old) place) ∙ ap (presets_at krate) (sym places))));
     }
 
-pub gathered_start : (krate : CrateTree) (all rest : List ScriptLine) (seen : List (Bor Place)) (presets : List BusPreset) → rest ≡ all → seen ≡ [] → presets ≡ [] → GatheredUpTo krate all rest (map (λ other. other.now) seen) (map preset_seen presets)
+pub gathered_start : (krate : CrateTree) (all rest : List ScriptLine) (seen : List PlaceKey) (presets : List BusPreset) → rest ≡ all → seen ≡ [] → presets ≡ [] → GatheredUpTo krate all rest (map key_seen seen) (map preset_seen presets)
 gathered_start krate all rest seen presets is none nothing =
-    subst (λ lines. GatheredUpTo krate all lines (map (λ other. other.now) seen) (map preset_seen presets)) (sym is)
-    (subst (λ (s : List (Bor Place)). GatheredUpTo krate all all (map (λ other. other.now) s) (map preset_seen presets)) (sym none)
+    subst (λ lines. GatheredUpTo krate all lines (map key_seen seen) (map preset_seen presets)) (sym is)
+    (subst (λ (s : List PlaceKey). GatheredUpTo krate all all (map key_seen s) (map preset_seen presets)) (sym none)
     (subst (λ (p : List BusPreset). GatheredUpTo krate all all [] (map preset_seen p)) (sym nothing) (gathered_none krate all)))

@@ -12,3 +12,4 @@ mod Scripts
 mod CalledPlaces
 mod Setting
 mod Planning
+mod SameKeys

@@ -13,6 +13,7 @@ use Rattle.frag_sem.specs.CallPlaces.{RegisterAt}
 use Rattle.frag_sem.specs.Presets.{Preset, preset_of, same_place}
 use Rattle.frag_sem.specs.TextMeaning.{acts_at, text_at}
 use Rattle.frag_eval.specs.declared.preset.Called.{Called}
+use Rattle.frag_eval.specs.Keys.{key_seen}
 
 -- a preset of a bus, as scripts have it
 abbrev pub preset_seen : BusPreset → Preset
@@ -20,7 +21,7 @@ preset_seen preset = record { address = preset.address; width = preset.width; va
 
 -- the places that were called
 abbrev pub places_seen : Called → List Place
-places_seen called = map (λ place. place.now) called.seen.items
+places_seen called = map key_seen called.seen.keys
 
 -- the presets of the registers that stand at places
 abbrev pub presets_at : CrateTree → List Place → List Preset

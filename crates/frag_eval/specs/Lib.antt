@@ -11,3 +11,4 @@ pub mod Lowering
 pub mod Lowered
 pub mod Called
 pub mod Plans
+pub mod Keys

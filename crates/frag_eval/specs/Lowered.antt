@@ -3,6 +3,7 @@ use Rattle.std.specs.Prelude.{ℕ, ◌≡◌, ◌≤◌, ◌+◌, List, [], ◌�
 use Rattle.frag_layout.specs.declared.place.Found.{Found}
 use Rattle.frag_layout.specs.Walks.{found_seen}
 use Rattle.frag_tree.specs.declared.script.Script.{Script}
+use Rattle.frag_tree.specs.declared.script.ScriptLine.{ScriptLine}
 use Rattle.frag_tree.specs.declared.statement.Statement.{Statement}
 use Rattle.frag_tree.specs.Trees.{CrateTree}
 use Rattle.frag_sem.specs.CallPlaces.{RegisterAt, register_at}
@@ -17,8 +18,8 @@ use Rattle.frag_eval.specs.declared.names.Reading.{Reading}
 use Rattle.frag_eval.specs.declared.role.Role.{Role}
 use Rattle.frag_eval.specs.Courses.{deeds_dues}
 use Rattle.frag_eval.specs.Deeds.{deeds_mean}
-use Rattle.frag_eval.specs.Lowering.{Does, Knows, finds_bound}
-use Rattle.frag_eval.specs.Prefixes.{Due, dues}
+use Rattle.frag_eval.specs.Lowering.{Does, Knows, finds_bound, outcome_at}
+use Rattle.frag_eval.specs.Prefixes.{Due, dues, dues_of}
 
 abbrev pub target_of : RegisterAt → Role → ℕ → Target
 target_of found role line = record { address = found.address; width = found.register.word; role = role; line = line }
@@ -55,6 +56,11 @@ IsFew lowering = lowering.reads ≤ length lowering.deeds.items
 -- the register that a statement calls was found, or there is none
 abbrev pub IsCalled : CrateTree → Statement → Option RegisterAt → Type 0
 IsCalled krate statement found = found ≡ option_and_then (register_at krate) (called statement)
+
+-- The deeds of a line came behind the others, where it calls this register, or none.
+abbrev pub TakesLine : Lowering → Lowering → ScriptLine → Option RegisterAt → Type 0
+TakesLine old now line found =
+    (krate : CrateTree) → IsCalled krate line.statement found → Grows old now (λ answers names. outcome_at krate answers names line) (dues_of krate line)
 
 -- Deeds do what a script means against a crate, whatever the answers are, and ask for its accesses.
 pub record AreAll (krate : CrateTree) (script : Script) (deeds : List Deed) : Type 0 where

@@ -5,6 +5,7 @@
 mod calls;
 mod course;
 mod deed;
+mod keys;
 mod lower;
 mod names;
 mod plan;

@@ -2,11 +2,8 @@ ghost use Rattle.std.specs.Prelude.{◌≡◌, ◌∷◌, [], Some, None, IfOk, 
 ghost use Rattle.frag_layout.specs.Walks.{found_seen};
 ghost use Rattle.frag_sem.specs.Meaning.{let_outcome, modify_outcome, reset_outcome, say_outcome, write_outcome};
 ghost use Rattle.frag_sem.specs.TextMeaning.{one_to_modify, started, zero_to_modify};
-ghost use Rattle.frag_tree.specs.Trees.{CrateTree};
 ghost use Rattle.frag_eval.specs.declared.role.Role.TheVariants as role;
-ghost use Rattle.frag_eval.specs.Lowered.{Grows, IsCalled, IsFew, IsRead, a_due, acts_found, standing_of, target_of};
-ghost use Rattle.frag_eval.specs.Lowering.{outcome_at};
-ghost use Rattle.frag_eval.specs.Prefixes.{dues_of};
+ghost use Rattle.frag_eval.specs.Lowered.{Grows, IsFew, IsRead, TakesLine, a_due, acts_found, standing_of, target_of};
 
 use crate::deed::{Deed, Start, Target};
 use crate::names::{Bound, Names, Reading};
@@ -178,7 +175,7 @@ fn lower_modify<'a>(
         found.register,
         chain,
     )?;
-    lowering.deeds.push(Deed::Write {
+    let write = Deed::Write {
         at: target(found, Role::ModifyWrite, line),
         start: Start::Based {
             read: reading.read,
@@ -186,7 +183,8 @@ fn lower_modify<'a>(
             zero: zero_to_modify(found.register),
         },
         puts,
-    })?;
+    };
+    lowering.deeds.push(write)?;
     Ok(())
 }
 
@@ -213,7 +211,7 @@ fn lower_at<'a>(
     line: &'a ScriptLine,
 ) -> Result<(), NoMemory>
     requires { IsFew lowering.old }
-    ensures { IfOk result (λ _. (krate : CrateTree) → IsCalled krate line.now.statement (Some (found_seen found.entry)) → Grows lowering.old lowering.new (λ answers names. outcome_at krate answers names line.now) (dues_of krate line.now)) }
+    ensures { IfOk result (λ _. TakesLine lowering.old lowering.new line.now (Some (found_seen found.entry))) }
 {
     match &line.statement {
         Statement::Let { name, .. } => lower_let(lowering, found, name, line.line),
@@ -244,7 +242,7 @@ fn lower_at<'a>(
 /// A statement that calls no register that is there.
 fn lower_nowhere<'a>(lowering: &mut Lowering<'a>, line: &'a ScriptLine) -> Result<(), NoMemory>
     requires { IsFew lowering.old }
-    ensures { IfOk result (λ _. (krate : CrateTree) → IsCalled krate line.now.statement None → Grows lowering.old lowering.new (λ answers names. outcome_at krate answers names line.now) (dues_of krate line.now)) }
+    ensures { IfOk result (λ _. TakesLine lowering.old lowering.new line.now None) }
 {
     match &line.statement {
         Statement::Let { .. } => Ok(()),
@@ -264,7 +262,7 @@ pub(crate) fn lower_line<'a>(
     line: &'a ScriptLine,
 ) -> Result<(), NoMemory>
     requires { IsFew lowering.old }
-    ensures { IfOk result (λ _. (krate : CrateTree) → IsCalled krate line.now.statement (option_map found_seen found.entry) → Grows lowering.old lowering.new (λ answers names. outcome_at krate answers names line.now) (dues_of krate line.now)) }
+    ensures { IfOk result (λ _. TakesLine lowering.old lowering.new line.now (option_map found_seen found.entry)) }
 {
     match found {
         Some(found) => lower_at(alloc, lowering, found, line),

@@ -1,8 +1,7 @@
 -- What the code measures of a block is what the layout and the greatest ends say, cut.
-use Rattle.std.proofs.Common.{◌≡◌, ℕ, ◌+◌, ◌-◌, ◌*◌, ◌/◌, ◌^◌, ◌≤◌, max, Bool, true, false, ◌&&◌, nat_le, nat_lt, List, [], ◌∷◌, ◌++◌, map, fold, find, Option, Some, None, option_map, option_and_then, refl, sym, ap, ap₂, ◌∙◌, if◌then◌else◌, arith}
+use Rattle.std.proofs.Common.{◌≡◌, ℕ, ◌+◌, ◌-◌, ◌*◌, ◌/◌, ◌≤◌, max, Bool, true, false, nat_le, nat_lt, List, [], ◌∷◌, fold, find, Option, Some, None, option_map, option_and_then, refl, sym, ap, ap₂, ◌∙◌, if◌then◌else◌, arith}
 use Rattle.std.specs.Prelude.{unwrap_or}
 use Rattle.std.specs.Int.{next_multiple_of}
-use Rattle.std.specs.List.{list_all}
 use Rattle.std.specs.Option.{option_or}
 use Rattle.std.specs.Map.{lookup}
 use Rattle.std.specs.Str.{bytes_eq}
@@ -13,7 +12,7 @@ use Rattle.pac_base.specs.declared.width.Width.TheVariants.{W8, W16, W32, W64}
 use Rattle.pac_base.specs.Widths.{bits_of}
 use Rattle.frag_sem.specs.AddressEnds.{End, access_end, accessors_end, block_end, cut, ends, greater, last_index, module_end, end_fits, slot_fits}
 use Rattle.frag_sem.specs.CallPlaces.{admits, body_count, body_offset, count_of, field_named, offset_of}
-use Rattle.frag_sem.specs.Layout.{Extent, Extents, align_of, block_extent, element_extent, element_size, end_behind, end_of, extent_of, extent_or_none, extents, place_behind, place_named, place_of, placed_behind, register_extent, type_extent}
+use Rattle.frag_sem.specs.Layout.{Extent, Extents, align_of, block_extent, element_extent, element_size, end_behind, end_of, extent_of, extent_or_none, extents, place_behind, place_of, placed_behind, register_extent, type_extent}
 use Rattle.frag_sem.specs.Modules.{beside, module_of, top_block}
 use Rattle.frag_sem.proofs.Chains.{comes_to, each_beside, ends_beside}
 use Rattle.frag_tree.specs.declared.access.Access.{Access}
@@ -30,7 +29,7 @@ use Rattle.frag_rules.specs.declared.inside.Inside.{Inside}
 use Rattle.frag_rules.specs.declared.measure.Measure.{Measure}
 use Rattle.frag_rules.specs.Insides.{found_inside}
 use Rattle.frag_rules.specs.Measures.{Knows, LaidOut, place_found, access_cut, accessors_cut, align_cut, count_found, cut_extent, end_at, end_behind_last, end_cut, end_found, last_from, last_of, measure_seen, measured, module_extent, block_measured, place_at, place_cut, room_found, type_found}
-use Rattle.frag_rules.proofs.Rooms.{cut-before, cut-fits, cut-behind, cut-round, cut-sum, cut-times, cut-twice}
+use Rattle.frag_rules.proofs.Rooms.{cut-fits, cut-behind, cut-round, cut-sum, cut-times, cut-twice}
 
 -- ---- rooms
 
@@ -219,9 +218,9 @@ laid-more takes fields left others first old new is end align places before = re
   end = ap (λ n. end_cut takes n others) end ∙ (ap (end_cut takes old.end) (sym is) ∙ before.end);
   align = ap (λ n. max n (align_cut takes others)) align ∙ (max-grouped (bits_of old.align / 8) (takes first.holds).align (align_cut takes others) ∙ (ap (λ xs. max (bits_of old.align / 8) (align_cut takes xs)) (sym is) ∙ before.align));
   places = λ name.
-    ap₂ (λ o n. option_or o (place_cut takes n others name)) (places name) end
-    ∙ (by (lookup (bytes_eq name) old.places) (bytes_eq name first.name) (place_at takes old.end first) (place_cut takes (end_at takes old.end first) others name)
-    ∙ (ap (λ xs. option_or (lookup (bytes_eq name) old.places) (place_cut takes old.end xs name)) (sym is) ∙ before.places name));
+      ap₂ (λ o n. option_or o (place_cut takes n others name)) (places name) end
+      ∙ (by (lookup (bytes_eq name) old.places) (bytes_eq name first.name) (place_at takes old.end first) (place_cut takes (end_at takes old.end first) others name)
+      ∙ (ap (λ xs. option_or (lookup (bytes_eq name) old.places) (place_cut takes old.end xs name)) (sym is) ∙ before.places name));
 }
   where
     by : (o : Option ℕ) (b : Bool) (n : ℕ) (p : Option ℕ) → option_or (option_or o (if b then Some n else None)) p ≡ option_or o (if b then Some n else p)

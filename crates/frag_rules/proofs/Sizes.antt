@@ -1,18 +1,17 @@
 -- The sizes of all blocks, as they are measured.
-use Rattle.std.proofs.Common.{◌≡◌, ℕ, ◌+◌, ◌<◌, ◌≤◌, ◌^◌, add-one, Bool, true, false, ◌&&◌, nat_le, List, [], ◌∷◌, ◌++◌, map, drop, length, Option, Some, None, is_none, option_map, refl, sym, ap, ap₂, ◌∙◌, slice_index_or, if◌then◌else◌}
+use Rattle.std.proofs.Common.{◌≡◌, ℕ, ◌+◌, ◌<◌, ◌^◌, add-one, Bool, true, false, ◌&&◌, nat_le, List, [], ◌∷◌, map, drop, length, Option, Some, None, is_none, option_map, refl, sym, ap, ap₂, ◌∙◌, slice_index_or, if◌then◌else◌}
 use Rattle.std.specs.List.{flat_map, list_all}
 use Rattle.std.specs.Map.{lookup}
 use Rattle.std.specs.Option.{option_or}
 use Rattle.std.specs.Str.{bytes_eq}
-use Rattle.std.proofs.lemmas.List.{drop_all}
 use Rattle.std.proofs.lemmas.List.Folds.{list_all-append}
 use Rattle.std.proofs.Math.Seq.{drop-cons}
 use Rattle.frag_sem.specs.Layout.{extent_of}
-use Rattle.frag_sem.specs.Modules.{all_blocks, blocks_in, same_element, top_block}
+use Rattle.frag_sem.specs.Modules.{blocks_in, same_element, top_block}
 use Rattle.frag_tree.specs.declared.block.Block.{Block}
 use Rattle.frag_tree.specs.declared.block.Element.{Element}
 use Rattle.frag_tree.specs.declared.block.Module.{Module}
-use Rattle.frag_tree.specs.Trees.{BlockTree, ModuleTree, Modules, block_tree, in_line, module_tree, one_block}
+use Rattle.frag_tree.specs.Trees.{BlockTree, Modules, block_tree, in_line, module_tree, one_block}
 use Rattle.frag_rules.specs.declared.inside.Inside.{Inside}
 use Rattle.frag_rules.specs.declared.measure.Measure.{Measure}
 use Rattle.frag_rules.specs.Elements.{element_of}
@@ -98,14 +97,14 @@ pub tops-more : (tops tops' : List (List ℕ × Measure)) (large large' first_la
     → TopsSoFar tops large first_large left all → TopsSoFar tops' large' first_large others all
 tops-more tops tops' large large' first_large left others all first own item is named seen kept more before = record {
   knows = λ name.
-    ap (λ o. option_or (option_map measure_seen o) (option_map block_measured (top_block name (map block_tree others)))) (kept name ∙ ap (λ n. option_or (lookup (bytes_eq name) tops) (if bytes_eq name n then Some item else None)) named)
-    ∙ (by (lookup (bytes_eq name) tops) (bytes_eq name (block_tree first).head.name) (top_block name (map block_tree others))
-    ∙ (ap (λ blocks. option_or (option_map measure_seen (lookup (bytes_eq name) tops)) (option_map block_measured (top_block name (map block_tree blocks)))) (sym is) ∙ before.knows name));
+      ap (λ o. option_or (option_map measure_seen o) (option_map block_measured (top_block name (map block_tree others)))) (kept name ∙ ap (λ n. option_or (lookup (bytes_eq name) tops) (if bytes_eq name n then Some item else None)) named)
+      ∙ (by (lookup (bytes_eq name) tops) (bytes_eq name (block_tree first).head.name) (top_block name (map block_tree others))
+      ∙ (ap (λ blocks. option_or (option_map measure_seen (lookup (bytes_eq name) tops)) (option_map block_measured (top_block name (map block_tree blocks)))) (sym is) ∙ before.knows name));
   sizes =
-    ap (λ b. b && list_all size_fits (flat_map (λ unit. unit ∷ blocks_in unit.inside) (map block_tree others))) more
-    ∙ (grouped (is_none large) (list_all size_fits (blocks_at (one_block (block_tree first)))) (list_all size_fits (flat_map (λ unit. unit ∷ blocks_in unit.inside) (map block_tree others)))
-    ∙ (ap (λ b. is_none large && b) (sym (list_all-append size_fits (blocks_at (one_block (block_tree first))) (flat_map (λ unit. unit ∷ blocks_in unit.inside) (map block_tree others))))
-    ∙ (ap (none_large_top large) (sym is) ∙ before.sizes)));
+      ap (λ b. b && list_all size_fits (flat_map (λ unit. unit ∷ blocks_in unit.inside) (map block_tree others))) more
+      ∙ (grouped (is_none large) (list_all size_fits (blocks_at (one_block (block_tree first)))) (list_all size_fits (flat_map (λ unit. unit ∷ blocks_in unit.inside) (map block_tree others)))
+      ∙ (ap (λ b. is_none large && b) (sym (list_all-append size_fits (blocks_at (one_block (block_tree first))) (flat_map (λ unit. unit ∷ blocks_in unit.inside) (map block_tree others))))
+      ∙ (ap (none_large_top large) (sym is) ∙ before.sizes)));
 }
   where
     by : (o : Option Measure) (b : Bool) (p : Option BlockTree)

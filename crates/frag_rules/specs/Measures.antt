@@ -1,13 +1,11 @@
 -- What a module takes in memory and where its last register ends, counted no further than 2^64 + 1.
-use Rattle.std.specs.Prelude.{ℕ, ◌≡◌, ◌+◌, ◌-◌, ◌*◌, ◌/◌, ◌^◌, max, Bool, true, ◌&&◌, nat_le, List, [], ◌∷◌, Option, Some, None, option_map, option_and_then, unwrap_or, if◌then◌else◌}
-use Rattle.std.specs.Borrow.{Bor}
+use Rattle.std.specs.Prelude.{ℕ, ◌≡◌, ◌+◌, ◌-◌, ◌*◌, ◌/◌, ◌^◌, max, Bool, nat_le, List, [], ◌∷◌, Option, Some, None, option_map, option_and_then, unwrap_or, if◌then◌else◌}
 use Rattle.std.specs.Int.{next_multiple_of}
-use Rattle.std.specs.List.{list_all}
 use Rattle.std.specs.Map.{lookup}
 use Rattle.std.specs.Str.{bytes_eq}
 use Rattle.pac_base.specs.Widths.{bits_of}
-use Rattle.frag_sem.specs.AddressEnds.{End, cut, greater, last_index, module_end}
-use Rattle.frag_sem.specs.CallPlaces.{admits, type_count}
+use Rattle.frag_sem.specs.AddressEnds.{End, cut, greater, module_end}
+use Rattle.frag_sem.specs.CallPlaces.{type_count}
 use Rattle.frag_sem.specs.Layout.{Extent, extent_of, register_extent}
 use Rattle.frag_tree.specs.declared.access.Access.{Access}
 use Rattle.frag_tree.specs.declared.access.Body.{Body}

@@ -58,7 +58,11 @@ fn type_room(inside: &Inside<'_, Measure>, holds: &FieldType) -> Room
 
 impl<'a> Layout<'a> {
     /// Places a field behind the others.
-    fn place(&mut self, inside: &Inside<'_, Measure>, field: &'a StructField) -> Result<(), NoMemory>
+    fn place(
+        &mut self,
+        inside: &Inside<'_, Measure>,
+        field: &'a StructField,
+    ) -> Result<(), NoMemory>
         ensures end { IfOk result (λ _. self.new.end ≡ end_at (type_found (found_inside inside.now)) self.old.end field.now) }
         ensures align { IfOk result (λ _. bits_of self.new.align / 8 ≡ max (bits_of self.old.align / 8) (type_found (found_inside inside.now) field.now.holds).align) }
         ensures places { IfOk result (λ _. (name : List ℕ) → lookup (bytes_eq name) self.new.places ≡ option_or (lookup (bytes_eq name) self.old.places) (if bytes_eq name field.now.name then Some (place_at (type_found (found_inside inside.now)) self.old.end field.now) else None)) }

@@ -231,11 +231,7 @@ fn measure_modules<'a>(
 }
 
 #[cycle(measure)]
-fn measure_module(
-    unit: &Module,
-    alloc: Global,
-    sizes: &mut Sizes,
-) -> Result<Measure, NoMemory>
+fn measure_module(unit: &Module, alloc: Global, sizes: &mut Sizes) -> Result<Measure, NoMemory>
     ensures measure { IfOk result (λ measure. measure_seen measure ≡ measured (module_tree unit.now)) }
     ensures sizes { IfOk result (λ _. is_none sizes.new.large ≡ (is_none sizes.old.large && list_all size_fits (blocks_at (module_tree unit.now)))) }
 {

@@ -64,11 +64,7 @@ fn slot_out_of_range(tops: &Named<'_, Measure>, slots: &[Slot]) -> Option<usize>
 }
 
 /// A block, told by how many blocks stand before it, as an item of the text.
-fn block_item(
-    alloc: Global,
-    krate: &Crate,
-    block: Option<usize>,
-) -> Result<Option<usize>, NoMemory>
+fn block_item(alloc: Global, krate: &Crate, block: Option<usize>) -> Result<Option<usize>, NoMemory>
     ensures { IfOk result (λ item. is_none item ≡ is_none block) }
 {
     match block {

@@ -12,7 +12,7 @@ fn events_are_kept_in_order(rt: HostRuntime) -> Result<(), Fail> {
         value: 7,
     })?;
     events.push(Event::Say(Said::Truth(true)))?;
-    assert_eq!(rt; events.len(), 2);
+    assert!(rt; events.len() == 2);
     assert!(rt; matches!(events.get(1), Some(Event::Say(Said::Truth(true)))));
     Ok(())
 }

@@ -1,18 +1,21 @@
 -- The elements of the flat rows that break a rule, and the fault that this is.
-use Rattle.std.specs.Prelude.{List, [], Option, option_map, map, reverse}
+use Rattle.std.specs.Prelude.{List, [], Option, None, option_map, reverse}
 use Rattle.overlap_check.specs.declared.fault.CheckFault.{CheckFault}
 use Rattle.overlap_check.specs.declared.fault.CheckFault.TheVariants.{BadWidth, AddressRange, Misaligned, FieldRange, NameClash}
+use Rattle.overlap_check.specs.declared.fault.Policy.{Policy}
+use Rattle.overlap_check.specs.declared.fault.Policy.TheVariants.{Loose, Strict}
 use Rattle.overlap_check.specs.declared.rule.Rule.{Rule}
+use Rattle.overlap_sweep.specs.Overlaps.{first_shared}
 use Rattle.pac_base.specs.declared.path.Step.{Step as Written}
 use Rattle.overlap_check.specs.declared.rule.Rule.TheVariants.{Width, Range, Alignment, Fields}
-use Rattle.overlap_check.specs.Told.{told_fault, first_of}
+use Rattle.overlap_check.specs.Told.{faults, first_of, told_shared}
 use Rattle.overlap_check.specs.Meetings.{first_clash}
 use Rattle.overlap_check.specs.Walks.{device_place, first_in, or_else}
 use Rattle.svd_model.specs.declared.device.Device.{Device}
-use Rattle.svd_model.specs.Checking.{Fault, bad_width, address_range, misaligned, field_range, bad_widths, past_ranges, uneven, fields_past, loose_faults}
+use Rattle.svd_model.specs.Checking.{Fault, bad_width, address_range, misaligned, field_range, bad_widths, past_ranges, uneven, fields_past}
 use Rattle.svd_model.specs.Keys.{Key}
 use Rattle.svd_model.specs.Steps.{Step}
-use Rattle.svd_model.specs.Trees.{device_tree}
+use Rattle.svd_model.specs.Trees.{device_tree, device_rows}
 use Rattle.svd_rows.specs.Rows.{Row}
 
 -- the elements that break a rule, in document order
@@ -30,8 +33,8 @@ fault_of Alignment path = misaligned path
 fault_of Fields path = field_range path
 
 -- the first of all faults, as it is told
-unfoldable pub first_fault_of : List (Row Step Key) → Option CheckFault
-first_fault_of all = first_of (map told_fault (loose_faults all))
+unfoldable pub first_fault_of : Policy → List (Row Step Key) → Option CheckFault
+first_fault_of policy all = first_of (faults policy all)
 
 -- ---- what walking finds
 
@@ -52,7 +55,16 @@ unfoldable pub clashing_in : Device → Option CheckFault
 clashing_in device =
     option_map (λ clash. NameClash (reverse clash.first) (reverse clash.second)) (first_clash [] (device_tree device).below)
 
--- the kinds one after the other
-abbrev pub fault_in : Device → Option CheckFault
-fault_in device =
-    or_else (broken_in Width device) (or_else (broken_in Range device) (or_else (broken_in Alignment device) (or_else (broken_in Fields device) (clashing_in device))))
+-- the kinds before overlaps, one after the other
+unfoldable pub place_fault_in : Device → Option CheckFault
+place_fault_in device =
+    or_else (broken_in Width device) (or_else (broken_in Range device) (or_else (broken_in Alignment device) (broken_in Fields device)))
+
+-- the first overlap, where overlaps are asked for
+unfoldable pub overlap_in : Policy → Device → Option CheckFault
+overlap_in Loose device = None
+overlap_in Strict device = option_map told_shared (first_shared (device_rows device))
+
+-- all kinds
+unfoldable pub fault_in : Policy → Device → Option CheckFault
+fault_in policy device = or_else (place_fault_in device) (or_else (overlap_in policy device) (clashing_in device))

@@ -1,6 +1,6 @@
 ghost use Rattle.std.specs.Prelude.{◌≡◌, [], IfOk, IfErr};
 ghost use Rattle.svd_model.specs.Checking.{loose_faults};
-ghost use Rattle.overlap_check.specs.Told.{IsFirst};
+ghost use Rattle.overlap_check.specs.Told.{IsFirst, faults};
 
 use crate::fault::{CheckFault, Policy};
 use crate::telling::first_fault;
@@ -8,7 +8,7 @@ use pac_base::Back;
 use std::alloc::Global;
 use svd_model::{Checked, Unfolded};
 
-/// The state as one that has no fault. It is handed back, with the first fault, where it has one; want of memory is
+/// The state as one that has no fault of those that are asked for. It is handed back, with the first fault, where it has one; want of memory is
 /// the one other refusal.
 pub fn check(
     alloc: Global,
@@ -18,10 +18,10 @@ pub fn check(
     ensures rows { IfOk result (λ checked. checked ≡ state) }
     ensures faultless { IfOk result (λ checked. loose_faults checked ≡ []) }
     ensures kept { IfErr result (λ back. back.state ≡ state) }
-    ensures fault { IfErr result (λ back. IsFirst (loose_faults state) back.fault) }
+    ensures asked { IfOk result (λ checked. faults policy checked ≡ []) }
+    ensures fault { IfErr result (λ back. IsFirst (faults policy state) back.fault) }
 {
-    let Policy::Loose = policy;
-    match first_fault(alloc, state.device()) {
+    match first_fault(alloc, policy, state.device()) {
         Ok(None) => Ok(Checked::new(state.into_device())),
         Ok(Some(fault)) => Err(Back { state, fault }),
         Err(_) => Err(Back {

@@ -6,9 +6,12 @@ use thiserror::Error;
 pub enum Policy {
     /// All but overlaps.
     Loose,
+    /// All.
+    Strict,
 }
 
-/// Why a description was refused. Paths have the written names of the elements.
+/// Why a description was refused. Paths have the written names of the elements,
+/// and those of overlaps the indexes of members: of fields at the field alone.
 #[derive(Debug, Drop, Error)]
 pub enum CheckFault {
     /// A register's size is 0 or above 64.
@@ -23,6 +26,12 @@ pub enum CheckFault {
     /// A field ends past its register's width, or has no bit.
     #[error("field passes the register")]
     FieldRange { path: Path },
+    /// Two members of fields of one register share a bit, and are both readable or both writable.
+    #[error("fields overlap")]
+    FieldOverlap { first: Path, second: Path },
+    /// Two members of registers of one peripheral share a byte, and no alternate says that they may.
+    #[error("registers overlap")]
+    RegisterOverlap { first: Path, second: Path },
     /// Two siblings have one accessor name.
     #[error("two elements have one accessor name")]
     NameClash { first: Path, second: Path },

@@ -1,10 +1,12 @@
-ghost use Rattle.std.specs.Prelude.{◌≡◌, IfOk, reverse};
-ghost use Rattle.overlap_check.specs.Ruled.{broken_in, clashing_in, fault_in};
+ghost use Rattle.std.specs.Prelude.{◌≡◌, None, IfOk, reverse};
+ghost use Rattle.overlap_check.specs.Ruled.{broken_in, clashing_in, fault_in, overlap_in, place_fault_in};
+ghost use Rattle.svd_model.specs.Facts.{IsUnfolded};
 
 use crate::clash::clash_in_device;
-use crate::fault::CheckFault;
+use crate::fault::{CheckFault, Policy};
 use crate::rule::Rule;
 use crate::walk::first_in_device;
+use overlap_sweep::{Overlap, Shared, first_overlap};
 use pac_base::{NoMemory, Path, Seq, Step};
 use std::alloc::Global;
 use svd_model::Device;
@@ -60,9 +62,10 @@ fn clashing(alloc: Global, device: &Device) -> Result<Option<CheckFault>, NoMemo
     }
 }
 
-/// The first of all faults of a device in which each list is unfolded: the kinds one after the other.
-pub fn first_fault(alloc: Global, device: &Device) -> Result<Option<CheckFault>, NoMemory>
-    ensures { IfOk result (λ found. found ≡ fault_in device.now) }
+/// The first fault of the kinds before overlaps, one after the other.
+#[tactic(auto, unfolding(crate::specs::Ruled::place_fault_in))]
+fn place_fault(alloc: Global, device: &Device) -> Result<Option<CheckFault>, NoMemory>
+    ensures { IfOk result (λ found. found ≡ place_fault_in device.now) }
 {
     let width = broken(alloc, Rule::Width, device)?;
     if let Some(fault) = width {
@@ -77,7 +80,47 @@ pub fn first_fault(alloc: Global, device: &Device) -> Result<Option<CheckFault>,
         return Ok(Some(fault));
     }
     let field = broken(alloc, Rule::Fields, device)?;
-    if let Some(fault) = field {
+    Ok(field)
+}
+
+/// The first overlap, where overlaps are asked for.
+#[tactic(auto, unfolding(crate::specs::Ruled::overlap_in))]
+fn overlap(alloc: Global, policy: Policy, device: &Device) -> Result<Option<CheckFault>, NoMemory>
+    requires unfolded { IsUnfolded device.now }
+    requires placed { place_fault_in device.now ≡ None }
+    ensures { IfOk result (λ found. found ≡ overlap_in policy device.now) }
+{
+    match policy {
+        Policy::Loose => Ok(None),
+        Policy::Strict => match first_overlap(alloc, device)? {
+            Some(Shared::Fields(Overlap { first, second })) => {
+                Ok(Some(CheckFault::FieldOverlap { first, second }))
+            }
+            Some(Shared::Registers(Overlap { first, second })) => {
+                Ok(Some(CheckFault::RegisterOverlap { first, second }))
+            }
+            None => Ok(None),
+        },
+    }
+}
+
+/// The first of all faults that are asked for of a device in which each list is unfolded: the kinds one after the
+/// other.
+#[tactic(auto, unfolding(crate::specs::Ruled::fault_in))]
+pub fn first_fault(
+    alloc: Global,
+    policy: Policy,
+    device: &Device,
+) -> Result<Option<CheckFault>, NoMemory>
+    requires { IsUnfolded device.now }
+    ensures { IfOk result (λ found. found ≡ fault_in policy device.now) }
+{
+    let place = place_fault(alloc, device)?;
+    if let Some(fault) = place {
+        return Ok(Some(fault));
+    }
+    let overlap = overlap(alloc, policy, device)?;
+    if let Some(fault) = overlap {
         return Ok(Some(fault));
     }
     clashing(alloc, device)

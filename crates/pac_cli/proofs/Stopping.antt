@@ -6,7 +6,8 @@ use Rattle.dim_expand.specs.declared.fault.DimFault.TheVariants as dim
 use Rattle.dim_expand.specs.declared.fault.Cause.TheVariants.{Zero, TooLong, NoMark, IndexCount}
 use Rattle.dim_expand.specs.Faults.{first_fault, IsFirst as IsFirstDim}
 use Rattle.dim_expand.specs.Unfolding.{unfolded_rows}
-use Rattle.overlap_check.specs.Told.{first_of, told_fault, IsFirst}
+use Rattle.overlap_check.specs.Told.{faults, first_of, told_fault, IsFirst}
+use Rattle.overlap_check.specs.declared.fault.Policy.TheVariants.{Loose}
 use Rattle.overlap_check.specs.declared.fault.CheckFault.{CheckFault}
 use Rattle.overlap_check.specs.declared.fault.CheckFault.TheVariants as check
 use Rattle.svd_model.specs.Checking.{Fault, loose_faults}
@@ -116,11 +117,13 @@ check_stopped bytes read derived made fault has d u told =
 
 -- the whole is at fault
 pub not_checked : (bytes : List ℕ) (read derived made : Rows) (fault : CheckFault) → HasAnswer bytes (described read) → Derives read derived → Unfolds derived made
-    → IsFirst (loose_faults made) fault → ResolvesNot (class_of (of_checking fault)) (source_of bytes) (of_checking fault)
+    → IsFirst (faults Loose made) fault → ResolvesNot (class_of (of_checking fault)) (source_of bytes) (of_checking fault)
 not_checked bytes read derived made (check.BadWidth path) has d u is = check_stopped bytes read derived made _ has d u (first_told (loose_faults made) (check.BadWidth path) is)
 not_checked bytes read derived made (check.AddressRange path) has d u is = check_stopped bytes read derived made _ has d u (first_told (loose_faults made) (check.AddressRange path) is)
 not_checked bytes read derived made (check.Misaligned path) has d u is = check_stopped bytes read derived made _ has d u (first_told (loose_faults made) (check.Misaligned path) is)
 not_checked bytes read derived made (check.FieldRange path) has d u is = check_stopped bytes read derived made _ has d u (first_told (loose_faults made) (check.FieldRange path) is)
+not_checked bytes read derived made (check.FieldOverlap one other) has d u is = check_stopped bytes read derived made _ has d u (first_told (loose_faults made) (check.FieldOverlap one other) is)
+not_checked bytes read derived made (check.RegisterOverlap one other) has d u is = check_stopped bytes read derived made _ has d u (first_told (loose_faults made) (check.RegisterOverlap one other) is)
 not_checked bytes read derived made (check.NameClash one other) has d u is = check_stopped bytes read derived made _ has d u (first_told (loose_faults made) (check.NameClash one other) is)
 not_checked bytes read derived made check.Memory has d u is = refl
 

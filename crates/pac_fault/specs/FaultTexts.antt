@@ -17,6 +17,7 @@ use Rattle.svd_model.specs.declared.counted.Counted.{Counted}
 use Rattle.svd_model.specs.declared.counted.Counted.TheVariants as counted
 use Rattle.svd_reader.specs.declared.fault.SvdFault.{SvdFault}
 use Rattle.svd_reader.specs.declared.fault.SvdFault.TheVariants as svd
+use Rattle.svd_values.specs.AccessorNames.{without_array_mark}
 use Rattle.pac_fault.specs.FragmentTexts.{crate_text, script_text, statements_text}
 use Rattle.pac_fault.specs.declared.fault.PacFault.{PacFault}
 use Rattle.pac_fault.specs.declared.fault.PacFault.TheVariants.{Memory, Words, Read, Write, Bus, Svd, Unbuilt, Dim, Check, CrateText, Script, Limit}
@@ -41,9 +42,14 @@ abbrev pub index_text : Option ℕ → List ℕ
 index_text None = []
 index_text (Some index) = codes "[" ++ (decimal index ++ codes "]")
 
--- a step of a path: the written name, and the index of a member
+-- the written name, without the mark of an array where an index stands behind it
+abbrev pub shown_name : List ℕ → Option ℕ → List ℕ
+shown_name name None = name
+shown_name name (Some index) = without_array_mark name
+
+-- a step of a path: the name, and the index of a member
 unfoldable pub step_text : Step → List ℕ
-step_text step = step.name ++ index_text step.index
+step_text step = shown_name step.name step.index ++ index_text step.index
 
 -- a step behind another
 abbrev pub step_behind : Step → List ℕ
@@ -94,12 +100,18 @@ svd_text svd.Memory = codes "out of memory"
 abbrev pub at_path : List Step → List ℕ → List ℕ
 at_path path said = path_text path ++ said
 
+-- what is wrong with two elements
+abbrev pub both_paths : List Step → List Step → List ℕ → List ℕ
+both_paths first second said = path_text first ++ (codes " and " ++ at_path second said)
+
 unfoldable pub check_text : CheckFault → List ℕ
 check_text (check.BadWidth path) = at_path path (codes ": size is not 1 to 64")
 check_text (check.AddressRange path) = at_path path (codes ": address passes 64 bits")
 check_text (check.Misaligned path) = at_path path (codes ": address is not a multiple of the width")
 check_text (check.FieldRange path) = at_path path (codes ": field passes the register")
-check_text (check.NameClash first second) = path_text first ++ (codes " and " ++ at_path second (codes " have one accessor name"))
+check_text (check.FieldOverlap first second) = both_paths first second (codes " overlap")
+check_text (check.RegisterOverlap first second) = both_paths first second (codes " overlap")
+check_text (check.NameClash first second) = both_paths first second (codes " have one accessor name")
 check_text check.Memory = codes "out of memory"
 
 unfoldable pub dim_text : DimFault → List ℕ

@@ -1,6 +1,7 @@
 ghost use Rattle.std.specs.Prelude.{◌≡◌, ◌++◌, IfOk, OnOk, codes, decimal};
 ghost use Rattle.std.specs.List.{flat_map};
-ghost use Rattle.pac_fault.specs.FaultTexts.{at_path, bad_text, check_text, counted_text, dim_text, fault_line, index_text, kind_text, limit_text, many_text, path_text, span_text, step_behind, step_text, svd_text, text_of, words_text};
+ghost use Rattle.svd_values.specs.AccessorNames.{without_array_mark};
+ghost use Rattle.pac_fault.specs.FaultTexts.{at_path, bad_text, both_paths, check_text, counted_text, dim_text, fault_line, index_text, kind_text, limit_text, many_text, path_text, shown_name, span_text, step_behind, step_text, svd_text, text_of, words_text};
 
 use crate::fault::{LimitFault, PacFault, WordsFault};
 use crate::fragment_text::{push_crate, push_script, push_statements};
@@ -98,11 +99,28 @@ fn push_index(page: &mut Page, index: Option<u64>) -> Result<(), NoMemory>
     Ok(())
 }
 
+/// The name without `[%s]` at its end.
+fn without_array_mark(name: &[u8]) -> &[u8]
+    ensures { result.now ≡ without_array_mark name.now }
+{
+    name.strip_suffix(b"[%s]").unwrap_or(name)
+}
+
+/// The written name, without the mark of an array where an index stands behind it.
+fn shown_name(name: &[u8], index: Option<u64>) -> &[u8]
+    ensures { result.now ≡ shown_name name.now index }
+{
+    match index {
+        Some(_) => without_array_mark(name),
+        None => name,
+    }
+}
+
 #[tactic(auto, unfolding(crate::specs::FaultTexts::step_text))]
 fn push_step(page: &mut Page, step: &Step) -> Result<(), NoMemory>
     ensures { OnOk result (page.new ≡ page.old ++ step_text step.now) }
 {
-    page.push(step.name.bytes())?;
+    page.push(shown_name(step.name.bytes(), step.index))?;
     push_index(page, step.index)
 }
 
@@ -260,12 +278,13 @@ fn push_svd(page: &mut Page, fault: &SvdFault) -> Result<(), NoMemory>
 
 // ---- the whole
 
-fn push_clash(page: &mut Page, first: &[Step], second: &[Step]) -> Result<(), NoMemory>
-    ensures { OnOk result (page.new ≡ page.old ++ (path_text first.now ++ (codes " and " ++ at_path second.now (codes " have one accessor name")))) }
+/// Appends what is wrong with two elements.
+fn push_both(page: &mut Page, first: &[Step], second: &[Step], said: &[u8]) -> Result<(), NoMemory>
+    ensures { OnOk result (page.new ≡ page.old ++ both_paths first.now second.now said.now) }
 {
     push_path(page, first)?;
     page.push(b" and ")?;
-    push_at(page, second, b" have one accessor name")
+    push_at(page, second, said)
 }
 
 #[tactic(auto, unfolding(crate::specs::FaultTexts::check_text))]
@@ -291,10 +310,17 @@ fn push_check(page: &mut Page, fault: &CheckFault) -> Result<(), NoMemory>
             path.as_slice(),
             b": field passes the register",
         ),
-        CheckFault::NameClash { first, second } => push_clash(
+        CheckFault::FieldOverlap { first, second } => {
+            push_both(page, first.as_slice(), second.as_slice(), b" overlap")
+        }
+        CheckFault::RegisterOverlap { first, second } => {
+            push_both(page, first.as_slice(), second.as_slice(), b" overlap")
+        }
+        CheckFault::NameClash { first, second } => push_both(
             page,
             first.as_slice(),
             second.as_slice(),
+            b" have one accessor name",
         ),
         CheckFault::Memory => page.push(b"out of memory"),
     }

@@ -2,18 +2,18 @@
 use Rattle.std.proofs.Common.{◌≡◌, ℕ, true, false, List, [], ◌∷◌, ◌++◌, map, Option, Some, codes, refl, ap, subst}
 use Rattle.std.specs.Str.{bytes_eq}
 use Rattle.yaml_block.specs.Trees.{Tree, EntryTrees, nothing, scalar, list, mapping, entry}
-use Rattle.patch_model.specs.declared.form.KeyKind.{KeyKind}
-use Rattle.patch_model.specs.declared.form.KeyKind.TheVariants.{Children}
+use Rattle.patch_form.specs.declared.form.KeyKind.{KeyKind}
+use Rattle.patch_form.specs.declared.form.KeyKind.TheVariants.{Children}
 use Rattle.patch_model.specs.declared.act.Addition.{Addition, roll-Addition}
 use Rattle.patch_model.specs.declared.act.Additions.{Additions, out-Additions, roll-Additions}
 use Rattle.patch_model.specs.declared.act.Addition.TheOpen.{Addition-F, Additions-F}
 use Rattle.patch_model.specs.declared.act.Addition.TheFolds.{fold-roll-Addition, fold-roll-Additions, fold_out-Additions}
 use Rattle.patch_model.specs.Acts.{Added, AddedOne, added, added_of, addition_layer, addition_under, additions_layer, additions_under, no_more}
-use Rattle.patch_model.specs.Answers.{AllMet}
-use Rattle.patch_model.specs.Demands.{addition_demands, each_key, element_demands, key_demands, place_demands}
+use Rattle.patch_form.specs.Unmet.{AllMet}
+use Rattle.patch_form.specs.Demands.{addition_demands, each_key, element_demands, key_demands, place_demands}
 use Rattle.patch_model.specs.Held.{AreAdditionsMet, AreKeysMet, addition_entry}
 use Rattle.patch_model.specs.Orders.{added_at, added_below}
-use Rattle.patch_model.specs.Words.{key_kind, element_keys}
+use Rattle.patch_form.specs.Words.{key_kind, element_keys}
 use Rattle.patch_model.proofs.Copying.{met_left, met_right}
 
 -- the elements, and behind them more

@@ -2,16 +2,16 @@
 use Rattle.std.proofs.Common.{◌≡◌, ℕ, Bool, true, false, List, [], ◌∷◌, ◌++◌, Option, Some, codes, refl, ap, subst, ◌∙◌}
 use Rattle.std.specs.Str.{bytes_eq}
 use Rattle.yaml_block.specs.Trees.{Tree, EntryTrees, nothing, scalar, list, mapping, no_entries, entry}
-use Rattle.patch_model.specs.declared.form.Form.TheVariants.{Name}
-use Rattle.patch_model.specs.declared.form.KeyKind.{KeyKind}
-use Rattle.patch_model.specs.declared.form.KeyKind.TheVariants.{Used}
-use Rattle.patch_model.specs.Answers.{AllMet}
-use Rattle.patch_model.specs.Demands.{At, Demand, absent, present, at_key, each_key, key_demands, place_demands}
+use Rattle.patch_form.specs.declared.form.Form.TheVariants.{Name}
+use Rattle.patch_form.specs.declared.form.KeyKind.{KeyKind}
+use Rattle.patch_form.specs.declared.form.KeyKind.TheVariants.{Used}
+use Rattle.patch_form.specs.Unmet.{AllMet}
+use Rattle.patch_form.specs.Demands.{At, Demand, absent, present, at_key, each_key, key_demands, place_demands}
 use Rattle.glob_select.specs.Refusals.{IsPattern}
-use Rattle.patch_model.specs.Mappings.{array_entry, copy_entry, from_there, name_there}
+use Rattle.patch_form.specs.Mappings.{array_entry, copy_entry, from_there, name_there}
 use Rattle.patch_model.specs.Orders.{NamedAt, NamedBy}
-use Rattle.patch_model.specs.Parts.{entries_in}
-use Rattle.patch_model.specs.Words.{key_kind, element_keys}
+use Rattle.patch_form.specs.Parts.{entries_in}
+use Rattle.patch_form.specs.Words.{key_kind, element_keys}
 
 pub met_left : (xs ys : List Demand) → AllMet (xs ++ ys) → AllMet xs
 met_left [] ys met = tt

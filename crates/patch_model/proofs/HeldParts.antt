@@ -1,17 +1,17 @@
 -- What is met of a whole is met of its parts.
 use Rattle.std.proofs.Common.{ℕ, Bool, List}
 use Rattle.yaml_block.specs.Trees.{Tree, ItemTrees, EntryTrees, nothing, scalar, list, mapping, item, no_entries, entry}
-use Rattle.patch_model.specs.declared.word.KeyWord.{KeyWord}
-use Rattle.patch_model.specs.declared.word.KeyWord.TheVariants.{Command, Ignored, Unknown, Pattern}
-use Rattle.patch_model.specs.declared.word.TextWord.{TextWord}
-use Rattle.patch_model.specs.declared.word.TextWord.TheVariants as texts
-use Rattle.patch_model.specs.declared.word.Word.{Word}
-use Rattle.patch_model.specs.declared.word.Word.TheVariants.{Add}
-use Rattle.patch_model.specs.Answers.{AllMet}
-use Rattle.patch_model.specs.Demands.{Demand, addition_demands, element_demands}
+use Rattle.patch_form.specs.declared.word.KeyWord.{KeyWord}
+use Rattle.patch_form.specs.declared.word.KeyWord.TheVariants.{Command, Ignored, Unknown, Pattern}
+use Rattle.patch_form.specs.declared.word.TextWord.{TextWord}
+use Rattle.patch_form.specs.declared.word.TextWord.TheVariants as texts
+use Rattle.patch_form.specs.declared.word.Word.{Word}
+use Rattle.patch_form.specs.declared.word.Word.TheVariants.{Add}
+use Rattle.patch_form.specs.Unmet.{AllMet}
+use Rattle.patch_form.specs.Demands.{Demand, addition_demands, element_demands}
 use Rattle.patch_model.specs.Held.{EachDeed, IsTextMet, command_part, deed_demands, item_demands, opened_part, text_demands, texts_demands}
-use Rattle.patch_model.specs.Mappings.{entries_demands, entry_demands, opened_demands, pattern_item, pattern_items, prefix_item, prefix_items, word_entries, word_entry}
-use Rattle.patch_model.specs.Parts.{entries_in}
+use Rattle.patch_form.specs.Mappings.{entries_demands, entry_demands, opened_demands, pattern_item, pattern_items, prefix_item, prefix_items, word_entries, word_entry}
+use Rattle.patch_form.specs.Parts.{entries_in}
 use Rattle.patch_model.proofs.Copying.{met_left, met_right}
 
 -- the entries of a command's mapping

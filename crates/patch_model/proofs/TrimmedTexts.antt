@@ -7,7 +7,7 @@ use Rattle.std.proofs.lemmas.List.{reverse-append, reverse-reverse, take-append-
 use Rattle.std.proofs.lemmas.Str.{IsUtf8-drop, IsUtf8-take, IsUtf8-from_ascii, IsCharBoundary-after_ascii, IsCharBoundary-at_seam}
 use Rattle.text_scan.specs.Classes.{is_blank}
 use Rattle.text_scan.specs.Fronts.{rest_of}
-use Rattle.patch_model.specs.Forms.{trimmed}
+use Rattle.patch_form.specs.Forms.{trimmed}
 
 blank_small : (byte : ℕ) → is_blank byte ≡ true → byte < 128
 blank_small byte is = grind (arith, nat_tests, is)

@@ -5,8 +5,8 @@ use Rattle.yaml_block.specs.declared.node.Node.TheVariants.{Map}
 use Rattle.yaml_block.specs.declared.node.Entries.{Entries, out-Entries}
 use Rattle.yaml_block.specs.Nodes.{entry_under, node_tree}
 use Rattle.yaml_block.specs.Trees.{Tree, EntryTrees, nothing, scalar, list, mapping, no_entries, entry, entries_of}
-use Rattle.patch_model.proofs.Arms.{in_map}
-use Rattle.patch_model.proofs.FromPlace.{from-here}
+use Rattle.patch_form.proofs.Arms.{in_map}
+use Rattle.patch_form.proofs.FromPlace.{from-here}
 
 abbrev mutual
   pub weight : Tree → ℕ

@@ -1,18 +1,18 @@
 -- What a part of a patch is held to before its commands are made.
-use Rattle.std.specs.Prelude.{ℕ, Bool, List, [], ◌++◌}
+use Rattle.std.specs.Prelude.{ℕ, Bool, List, [], ◌++◌, Option, Some, None}
 use Rattle.glob_select.specs.Refusals.{IsPattern}
 use Rattle.yaml_block.specs.Trees.{Tree, ItemTrees, EntryTrees, nothing, scalar, list, mapping, no_entries, entry}
-use Rattle.patch_model.specs.declared.fault.FaultKind.TheVariants.{BadValue, BadPattern}
-use Rattle.patch_model.specs.declared.form.Form.TheVariants.{Name}
-use Rattle.patch_model.specs.declared.word.KeyWord.{KeyWord}
-use Rattle.patch_model.specs.declared.word.KeyWord.TheVariants.{Command, Ignored, Unknown, Pattern}
-use Rattle.patch_model.specs.declared.word.TextWord.{TextWord}
-use Rattle.patch_model.specs.declared.word.TextWord.TheVariants as texts
-use Rattle.patch_model.specs.declared.word.Word.{Word}
-use Rattle.patch_model.specs.declared.word.Word.TheVariants.{Delete, Copy, Modify, Add, Strip, Array}
-use Rattle.patch_model.specs.Answers.{AllMet}
-use Rattle.patch_model.specs.Demands.{Demand, addition_demands, each_key, element_demands, of_form, one, pattern}
-use Rattle.patch_model.specs.Mappings.{array_entry, command_demands, copy_entry, delete_demands, modify_entry, opened_demands, pattern_item, pattern_items, prefix_item, prefix_items, strip_demands}
+use Rattle.patch_form.specs.declared.fault.FaultKind.TheVariants.{BadValue, BadPattern}
+use Rattle.patch_form.specs.declared.form.Form.TheVariants.{Name}
+use Rattle.patch_form.specs.declared.word.KeyWord.{KeyWord}
+use Rattle.patch_form.specs.declared.word.KeyWord.TheVariants.{Command, Ignored, Unknown, Pattern}
+use Rattle.patch_form.specs.declared.word.TextWord.{TextWord}
+use Rattle.patch_form.specs.declared.word.TextWord.TheVariants as texts
+use Rattle.patch_form.specs.declared.word.Word.{Word}
+use Rattle.patch_form.specs.declared.word.Word.TheVariants.{Delete, Copy, Modify, Add, Strip, Array}
+use Rattle.patch_form.specs.Unmet.{AllMet}
+use Rattle.patch_form.specs.Demands.{Demand, addition_demands, each_key, element_demands, of_form, one, pattern}
+use Rattle.patch_form.specs.Mappings.{array_entry, command_demands, copy_entry, delete_demands, modify_entry, opened_demands, pattern_item, pattern_items, prefix_item, prefix_items, strip_demands}
 
 -- the keys of an element meet their demands, where it has keys
 abbrev pub AreKeysMet : Tree → Type 0
@@ -45,6 +45,15 @@ deed_demands Array device line key tree = array_entry line key tree
 abbrev pub EachDeed : Word → Bool → EntryTrees → Type 0
 EachDeed word device no_entries = Unit {0}
 EachDeed word device (entry line key tree others) = AllMet (deed_demands word device line key tree) × EachDeed word device others
+
+-- the commands of which a text is one, alone or in a list; a mapping gives the others
+abbrev pub text_word : Word → Option TextWord
+text_word Delete = Some texts.Delete
+text_word Copy = None
+text_word Modify = None
+text_word Add = None
+text_word Strip = Some texts.Strip
+text_word Array = None
 
 -- a text of a command, alone and in a list
 abbrev pub IsTextMet : TextWord → List ℕ → Type 0

@@ -1,12 +1,4 @@
 pub mod Acts
-pub mod Words
-pub mod Forms
-pub mod Demands
-pub mod Mappings
-pub mod Parts
 pub mod Orders
 pub mod Answers
-pub mod Finding
-pub mod Naming
-pub mod Codes
 pub mod Held

@@ -4,22 +4,22 @@ use Rattle.std.specs.Prelude.{ℕ, Bool, true, false, not, ◌&&◌, ◌||◌, �
 use Rattle.std.specs.Str.{bytes_eq}
 use Rattle.glob_select.specs.Reading.{alternatives_of}
 use Rattle.yaml_block.specs.Trees.{Tree, ItemTrees, EntryTrees, nothing, scalar, list, mapping, no_items, item, no_entries, entry}
-use Rattle.patch_model.specs.declared.form.KeyKind.{KeyKind}
-use Rattle.patch_model.specs.declared.form.KeyKind.TheVariants.{Used, Children, PassedOver}
-use Rattle.patch_model.specs.declared.word.KeyWord.{KeyWord}
-use Rattle.patch_model.specs.declared.word.KeyWord.TheVariants.{Command, Ignored, Unknown, Pattern}
-use Rattle.patch_model.specs.declared.word.Word.{Word}
-use Rattle.patch_model.specs.declared.word.Word.TheVariants.{Delete, Copy, Modify, Add, Strip, Array}
-use Rattle.patch_model.specs.declared.word.TextWord.{TextWord}
-use Rattle.patch_model.specs.declared.word.TextWord.TheVariants as texts
+use Rattle.patch_form.specs.declared.form.KeyKind.{KeyKind}
+use Rattle.patch_form.specs.declared.form.KeyKind.TheVariants.{Used, Children, PassedOver}
+use Rattle.patch_form.specs.declared.word.KeyWord.{KeyWord}
+use Rattle.patch_form.specs.declared.word.KeyWord.TheVariants.{Command, Ignored, Unknown, Pattern}
+use Rattle.patch_form.specs.declared.word.Word.{Word}
+use Rattle.patch_form.specs.declared.word.Word.TheVariants.{Delete, Copy, Modify, Add, Strip, Array}
+use Rattle.patch_form.specs.declared.word.TextWord.{TextWord}
+use Rattle.patch_form.specs.declared.word.TextWord.TheVariants as texts
 use Rattle.patch_model.specs.Acts.{KeyList, PatternItems, Added, AddedOne, no_more, added, Deed, opens, deletes, copies, modifies, modifies_device, adds, strips, arrays, Order}
-use Rattle.patch_model.specs.Demands.{At, absent, present, at_key}
-use Rattle.patch_model.specs.Forms.{NamesArray, array_name, first_alternative, trimmed}
-use Rattle.patch_model.specs.declared.word.Purpose.{Purpose}
-use Rattle.patch_model.specs.declared.word.Purpose.TheVariants.{Copying, Modifying, Adding}
+use Rattle.patch_form.specs.Demands.{At, absent, present, at_key}
+use Rattle.patch_form.specs.Forms.{NamesArray, array_name, first_alternative, trimmed}
+use Rattle.patch_form.specs.declared.word.Purpose.{Purpose}
+use Rattle.patch_form.specs.declared.word.Purpose.TheVariants.{Copying, Modifying, Adding}
 use Rattle.pac_base.specs.Names.{IsName}
-use Rattle.patch_model.specs.Parts.{entries_in, scalar_of}
-use Rattle.patch_model.specs.Words.{key_word, key_kind, device_key}
+use Rattle.patch_form.specs.Parts.{entries_in, scalar_of}
+use Rattle.patch_form.specs.Words.{key_word, key_kind, device_key}
 
 abbrev pub keeps_name : Purpose → Bool
 keeps_name Copying = false
@@ -196,6 +196,10 @@ orders_at word Pattern device parents line tree = []
 abbrev pub orders_of : Word → Bool → List PatternItems → EntryTrees → List Order
 orders_of word device parents no_entries = []
 orders_of word device parents (entry line key tree others) = orders_at word (key_word key) device parents line tree ++ orders_of word device parents others
+
+-- those that come last among the commands of a mapping
+abbrev pub later_orders : Bool → List PatternItems → EntryTrees → List Order
+later_orders device parents named = orders_of Add device parents named ++ (orders_of Strip device parents named ++ orders_of Array device parents named)
 
 -- the commands of a mapping, without its opened patterns
 abbrev pub own_orders : Bool → List PatternItems → EntryTrees → List Order

@@ -2,19 +2,19 @@ ghost use Rattle.std.specs.Prelude.{◌≡◌, IfOk, Some, map, codes};
 ghost use Rattle.yaml_block.specs.Nodes.{entry_under, node_tree};
 ghost use Rattle.yaml_block.specs.Trees.{entries_of};
 ghost use Rattle.patch_model.specs.Acts.{added_of, addition_under, additions_under, no_more};
-ghost use Rattle.patch_model.specs.Answers.{AllMet};
-ghost use Rattle.patch_model.specs.Demands.{addition_demands, each_key};
+ghost use Rattle.patch_form.specs.Unmet.{AllMet};
+ghost use Rattle.patch_form.specs.Demands.{addition_demands, each_key};
 ghost use Rattle.patch_model.specs.Held.{AreAdditionsMet, AreKeysMet, addition_entry};
 ghost use Rattle.patch_model.specs.Orders.{added_at, added_below, added_in, added_one, added_under};
-ghost use Rattle.patch_model.specs.Words.{key_kind};
-ghost use Rattle.patch_model.specs.declared.form.KeyKind.TheVariants as kinds;
+ghost use Rattle.patch_form.specs.Words.{key_kind};
+ghost use Rattle.patch_form.specs.declared.form.KeyKind.TheVariants as kinds;
 
 use crate::act::{Addition, Additions};
 use crate::kept::kept_keys;
 use crate::leaf::{entries_in, name_of};
-use crate::place::is_key;
-use crate::word::Purpose;
 use pac_base::{NoMemory, Text};
+use patch_form::place::is_key;
+use patch_form::word::Purpose;
 use std::alloc::Global;
 use yaml_block::Node;
 

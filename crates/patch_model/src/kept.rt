@@ -2,15 +2,15 @@ ghost use Rattle.std.specs.Prelude.{◌≡◌, ◌++◌, IfOk, OnOk, map};
 ghost use Rattle.yaml_block.specs.Nodes.{entry_under, node_tree};
 ghost use Rattle.yaml_block.specs.Trees.{entries_of};
 ghost use Rattle.patch_model.specs.Orders.{counts, is_used, keeps_name, kept_key, kept_keys};
-ghost use Rattle.patch_model.specs.Words.{key_kind};
+ghost use Rattle.patch_form.specs.Words.{key_kind};
 
 use crate::act::Keys;
-use crate::form::KeyKind;
 use crate::leaf::trimmed_text;
-use crate::place::{Entry, scalar};
-use crate::table::key_kind;
-use crate::word::Purpose;
 use pac_base::NoMemory;
+use patch_form::form::KeyKind;
+use patch_form::place::{Entry, scalar};
+use patch_form::table::key_kind;
+use patch_form::word::Purpose;
 use std::alloc::Global;
 
 fn keeps_name(purpose: Purpose) -> bool

@@ -4,13 +4,13 @@ ghost use Rattle.glob_select.specs.Refusals.{IsPattern};
 ghost use Rattle.pac_base.specs.Names.{IsName};
 ghost use Rattle.yaml_block.specs.Nodes.{entry_under, node_tree};
 ghost use Rattle.yaml_block.specs.Trees.{entries_of};
-ghost use Rattle.patch_model.specs.Forms.{trimmed};
-ghost use Rattle.patch_model.specs.Parts.{entries_in};
+ghost use Rattle.patch_form.specs.Forms.{trimmed};
+ghost use Rattle.patch_form.specs.Parts.{entries_in};
 
-use crate::form::trimmed;
-use crate::place::Entry;
 use glob_select::{Pattern, PatternFault};
 use pac_base::{Name, NameFault, NoMemory, Text, TextFault};
+use patch_form::form::trimmed;
+use patch_form::place::Entry;
 use std::alloc::Global;
 use yaml_block::Node;
 

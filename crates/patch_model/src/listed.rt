@@ -1,19 +1,19 @@
-ghost use Rattle.std.specs.Prelude.{OnOk, map};
+ghost use Rattle.std.specs.Prelude.{◌≡◌, OnOk, map};
 ghost use Rattle.yaml_block.specs.Nodes.{entry_under, item_under, node_tree};
 ghost use Rattle.yaml_block.specs.Trees.{entries_of, items_of};
 ghost use Rattle.patch_model.specs.Acts.{GrowsBy};
-ghost use Rattle.patch_model.specs.Answers.{AllMet};
-ghost use Rattle.patch_model.specs.Held.{EachDeed, item_demands, text_demands, texts_demands};
-ghost use Rattle.patch_model.specs.Mappings.{command_demands};
-ghost use Rattle.patch_model.specs.Parts.{entries_in};
+ghost use Rattle.patch_form.specs.Unmet.{AllMet};
+ghost use Rattle.patch_model.specs.Held.{EachDeed, item_demands, text_demands, text_word, texts_demands};
+ghost use Rattle.patch_form.specs.Mappings.{command_demands};
+ghost use Rattle.patch_form.specs.Parts.{entries_in};
 ghost use Rattle.patch_model.specs.Orders.{entries_orders, entry_orders, item_orders, text_deed, text_order, texts_orders, word_orders};
 
 use crate::act::{Commands, Patterns};
 use crate::deed::{entry_act, put, text_act};
 use crate::leaf::entries_in;
-use crate::place::{Entry, scalar};
-use crate::word::{TextWord, Word};
 use pac_base::NoMemory;
+use patch_form::place::{Entry, scalar};
+use patch_form::word::{TextWord, Word};
 use std::alloc::Global;
 use yaml_block::Node;
 
@@ -109,6 +109,20 @@ fn mapped_commands(
     entry_commands(alloc, word, device, entries_in(node), parents, made)
 }
 
+/// The command as one of which a text is one; none where a mapping gives what is done.
+fn text_word(word: Word) -> Option<TextWord>
+    ensures { result ≡ text_word word }
+{
+    match word {
+        Word::Delete => Some(TextWord::Delete),
+        Word::Copy => None,
+        Word::Modify => None,
+        Word::Add => None,
+        Word::Strip => Some(TextWord::Strip),
+        Word::Array => None,
+    }
+}
+
 /// Adds the commands that the value of a command's key gives.
 pub fn word_commands(
     alloc: Global,
@@ -122,12 +136,8 @@ pub fn word_commands(
     requires met { AllMet (command_demands word device line (node_tree node.now)) }
     ensures { OnOk result (GrowsBy made.old made.new (word_orders word device parents.now line (node_tree node.now))) }
 {
-    match word {
-        Word::Delete => text_commands(alloc, TextWord::Delete, line, node, parents, made),
-        Word::Strip => text_commands(alloc, TextWord::Strip, line, node, parents, made),
-        Word::Copy => mapped_commands(alloc, Word::Copy, device, node, parents, made),
-        Word::Modify => mapped_commands(alloc, Word::Modify, device, node, parents, made),
-        Word::Add => mapped_commands(alloc, Word::Add, device, node, parents, made),
-        Word::Array => mapped_commands(alloc, Word::Array, device, node, parents, made),
+    match text_word(word) {
+        Some(text) => text_commands(alloc, text, line, node, parents, made),
+        None => mapped_commands(alloc, word, device, node, parents, made),
     }
 }

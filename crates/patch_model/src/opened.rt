@@ -4,18 +4,18 @@ ghost use Rattle.glob_select.specs.Refusals.{IsPattern};
 ghost use Rattle.yaml_block.specs.Nodes.{entry_under, node_tree};
 ghost use Rattle.yaml_block.specs.Trees.{entries_of};
 ghost use Rattle.patch_model.specs.Acts.{GrowsBy, opens};
-ghost use Rattle.patch_model.specs.Answers.{AllMet};
+ghost use Rattle.patch_form.specs.Unmet.{AllMet};
 ghost use Rattle.patch_model.specs.Held.{opened_part};
-ghost use Rattle.patch_model.specs.Mappings.{mapping_demands, opened_demands};
+ghost use Rattle.patch_form.specs.Mappings.{mapping_demands, opened_demands};
 ghost use Rattle.patch_model.specs.Orders.{mapping_orders, opened_at, order, orders_below};
 
 use crate::act::{Act, Commands, Patterns};
 use crate::deed::{copied, put};
 use crate::leaf::pattern_of;
 use crate::own::own_commands;
-use crate::table::key_word;
-use crate::word::KeyWord;
 use pac_base::{NoMemory, Text};
+use patch_form::table::key_word;
+use patch_form::word::KeyWord;
 use std::alloc::Global;
 use yaml_block::Node;
 

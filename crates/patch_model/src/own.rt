@@ -2,17 +2,17 @@ ghost use Rattle.std.specs.Prelude.{◌≡◌, OnOk, map};
 ghost use Rattle.yaml_block.specs.Nodes.{entry_under, node_tree};
 ghost use Rattle.yaml_block.specs.Trees.{entries_of};
 ghost use Rattle.patch_model.specs.Acts.{GrowsBy};
-ghost use Rattle.patch_model.specs.Answers.{AllMet};
+ghost use Rattle.patch_form.specs.Unmet.{AllMet};
 ghost use Rattle.patch_model.specs.Held.{command_part};
-ghost use Rattle.patch_model.specs.Mappings.{mapping_demands};
-ghost use Rattle.patch_model.specs.Orders.{is_word, orders_at, orders_of, own_orders, place};
+ghost use Rattle.patch_form.specs.Mappings.{mapping_demands};
+ghost use Rattle.patch_model.specs.Orders.{is_word, later_orders, orders_at, orders_of, own_orders, place};
 
 use crate::act::{Commands, Patterns};
 use crate::listed::word_commands;
-use crate::place::Entry;
-use crate::table::key_word;
-use crate::word::{KeyWord, Word};
 use pac_base::NoMemory;
+use patch_form::place::Entry;
+use patch_form::table::key_word;
+use patch_form::word::{KeyWord, Word};
 use std::alloc::Global;
 use yaml_block::Node;
 
@@ -84,6 +84,22 @@ fn commands_of(
     Ok(())
 }
 
+/// Adds the commands of a mapping that come behind those that leave elements out, copy or change them.
+fn later_commands(
+    alloc: Global,
+    device: bool,
+    entries: &[Entry],
+    parents: &Patterns,
+    made: &mut Commands,
+) -> Result<(), NoMemory>
+    requires met { AllMet (mapping_demands device (entries_of (map entry_under entries.now))) }
+    ensures { OnOk result (GrowsBy made.old made.new (later_orders device parents.now (entries_of (map entry_under entries.now)))) }
+{
+    commands_of(alloc, Word::Add, device, entries, parents, made)?;
+    commands_of(alloc, Word::Strip, device, entries, parents, made)?;
+    commands_of(alloc, Word::Array, device, entries, parents, made)
+}
+
 /// Adds the commands of a mapping, without its opened patterns.
 pub fn own_commands(
     alloc: Global,
@@ -98,7 +114,5 @@ pub fn own_commands(
     commands_of(alloc, Word::Delete, device, entries, parents, made)?;
     commands_of(alloc, Word::Copy, device, entries, parents, made)?;
     commands_of(alloc, Word::Modify, device, entries, parents, made)?;
-    commands_of(alloc, Word::Add, device, entries, parents, made)?;
-    commands_of(alloc, Word::Strip, device, entries, parents, made)?;
-    commands_of(alloc, Word::Array, device, entries, parents, made)
+    later_commands(alloc, device, entries, parents, made)
 }

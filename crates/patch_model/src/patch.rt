@@ -1,16 +1,18 @@
 ghost use Rattle.std.specs.Prelude.{◌≡◌, IfErr, IfOk, map};
 ghost use Rattle.yaml_block.specs.Nodes.{node_tree};
 ghost use Rattle.patch_model.specs.Acts.{order_of};
-ghost use Rattle.patch_model.specs.Answers.{AllMet, AreOrders, IsPatch, IsRefused};
-ghost use Rattle.patch_model.specs.Mappings.{patch_demands};
+ghost use Rattle.patch_form.specs.Unmet.{AllMet};
+ghost use Rattle.patch_model.specs.Answers.{AreOrders, IsPatch, IsRefused};
+ghost use Rattle.patch_form.specs.Mappings.{patch_demands};
 ghost use Rattle.patch_model.specs.Orders.{patch_orders};
 
 use crate::act::{Commands, Patterns};
 use crate::fault::CommandFault;
 use crate::leaf::entries_in;
 use crate::opened::mapping_commands;
-use crate::refusal::{patch_fault, refusal};
+use crate::refusal::refusal;
 use pac_base::NoMemory;
+use patch_form::mapping::patch_fault;
 use std::alloc::Global;
 use yaml_block::Node;
 

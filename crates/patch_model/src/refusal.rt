@@ -1,27 +1,10 @@
-ghost use Rattle.std.specs.Prelude.{◌≡◌, IfOk};
-ghost use Rattle.yaml_block.specs.Nodes.{node_tree};
 ghost use Rattle.yaml_block.specs.Trees.{Tree};
-ghost use Rattle.patch_model.specs.Answers.{IsFirstUnmet, IsRefused};
-ghost use Rattle.patch_model.specs.Finding.{First};
-ghost use Rattle.patch_model.specs.Mappings.{patch_demands};
+ghost use Rattle.patch_form.specs.Unmet.{IsFirstUnmet};
+ghost use Rattle.patch_model.specs.Answers.{IsRefused};
+ghost use Rattle.patch_form.specs.Mappings.{patch_demands};
 
-use crate::fault::{CommandFault, Fault, FaultKind};
-use crate::mapping::mapping_fault;
-use pac_base::NoMemory;
-use std::alloc::Global;
-use yaml_block::Node;
-
-/// The first fault of a patch.
-pub fn patch_fault(alloc: Global, node: &Node) -> Result<Option<Fault>, NoMemory>
-    ensures { IfOk result (First (patch_demands (node_tree node.now))) }
-{
-    match node {
-        Node::Empty => Ok(None),
-        Node::Scalar(_) => Ok(None),
-        Node::List(_) => Ok(None),
-        Node::Map(entries) => mapping_fault(alloc, true, entries.entries.as_slice()),
-    }
-}
+use crate::fault::CommandFault;
+use patch_form::fault::{Fault, FaultKind};
 
 /// The answer that a fault is.
 pub fn refusal(fault: Fault) -> CommandFault

@@ -1,9 +1,11 @@
 // The worked rows of patches: whole texts of the block language, of patterns and of commands, with what
-// they spell or what is wrong with them.
+// they spell or what is wrong with them; and commands on descriptions.
 #![tactic(auto)]
 
 #[cfg(test)]
 mod blocks;
+#[cfg(test)]
+mod edits;
 #[cfg(test)]
 mod patches;
 #[cfg(test)]

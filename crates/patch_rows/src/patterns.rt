@@ -69,7 +69,7 @@ fn bad_at(alloc: Global, text: &str) -> Option<usize> {
 #[test]
 fn other_texts_are_bad_patterns(rt: HostRuntime) -> Result<(), Fail> {
     for (text, place) in BAD {
-        assert_eq!(rt; bad_at(rt.alloc(), text), Some(place), "{text}");
+        assert!(rt; bad_at(rt.alloc(), text) == Some(place), "{text}");
     }
     Ok(())
 }
@@ -79,7 +79,7 @@ fn copied_and_without_the_open_item(rt: HostRuntime) -> Result<(), Fail> {
     let pattern = Pattern::new(rt.alloc(), b" C[1-4]R")?;
     assert!(rt; pattern.copy(rt.alloc())?.matches(b"C3R"));
     let plain = pattern.without_open(rt.alloc())?.ok_or("a text")?;
-    assert_eq!(rt; plain.as_slice(), b"CR".as_slice());
+    assert!(rt; plain.as_slice() == b"CR".as_slice());
     let two = Pattern::new(rt.alloc(), b"C*R?")?;
     assert!(rt; two.without_open(rt.alloc())?.is_none());
     Ok(())

@@ -1,14 +1,13 @@
 -- Commands at two parents that are apart.
-use Rattle.std.proofs.Common.{◌≡◌, Bool, true, false, not, ◌&&◌, ◌||◌, nat_le, List, [], ◌∷◌, ◌++◌, map, Ok, refl, sym, ap, ap₂, ◌∙◌, subst}
+use Rattle.std.proofs.Common.{◌≡◌, Bool, true, false, not, ◌&&◌, ◌||◌, nat_le, List, [], ◌∷◌, ◌++◌, map, Ok, refl, sym, ap, ap₂, ◌∙◌}
 use Rattle.patch_model.specs.Acts.{Order}
 use Rattle.svd_model.proofs.Steps.{same_step-tells}
 use Rattle.svd_model.specs.Facts.{element_limit, elements_of}
-use Rattle.svd_model.specs.Keys.{Key}
 use Rattle.svd_model.specs.Steps.{Step, same_step}
 use Rattle.svd_rows.specs.LookUps.{inside, seen_below}
 use Rattle.svd_rows.specs.Paths.{begins, exactly, is_within}
 use Rattle.svd_rows.specs.RowEdits.{some_pass}
-use Rattle.svd_rows.specs.Rows.{Row, under_path}
+use Rattle.svd_rows.specs.Rows.{under_path}
 use Rattle.svd_model.specs.Counting.{told_count}
 use Rattle.svd_model.specs.declared.counted.Counted.TheVariants.{Elements}
 use Rattle.patch_sem.specs.declared.fault.PatchFault.TheVariants.{TooMany}
@@ -17,7 +16,7 @@ use Rattle.patch_sem.proofs.Outcomes.{both_ok, not_refused}
 use Rattle.patch_sem.specs.Laws.{AreApart}
 use Rattle.patch_sem.specs.Patching.{acted, applied_at, put_inside, within_limit}
 use Rattle.patch_sem.specs.Selecting.{Rows, kind_at}
-use Rattle.patch_sem.specs.Steps.{Outcome, ◌>>=◌}
+use Rattle.patch_sem.specs.Steps.{Outcome}
 
 abbrev leads : List Step → List Step → Bool
 leads path other = begins (exactly same_step path) other
@@ -41,7 +40,7 @@ elsewhere (step ∷ one) (next ∷ other) (first ∷ path) forth back here = cas
         more (behind step next (leads one other) same forth) (behind next step (leads other one) (sym same) back) on
 
 -- rows of one parent are none of the other
-below : (path : List Step) (rest : List Step) → leads path (path ++ rest) ≡ true
+pub below : (path : List Step) (rest : List Step) → leads path (path ++ rest) ≡ true
 unfolding begins
 below [] rest = refl
 below (step ∷ path) rest = ap (λ (b : Bool). b && leads path (path ++ rest)) (same_step-tells.itself step) ∙ below path rest

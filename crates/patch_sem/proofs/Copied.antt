@@ -12,14 +12,13 @@ use Rattle.svd_model.specs.Keys.{Key, rank}
 use Rattle.svd_model.specs.Steps.{Step, same_step}
 use Rattle.svd_rows.proofs.Deleting.{rows-without_children}
 use Rattle.svd_rows.proofs.LookUps.{children_of-rows}
-use Rattle.svd_rows.specs.Edits.{replaced, within, without_children}
+use Rattle.svd_rows.specs.Edits.{replaced, within}
 use Rattle.svd_rows.specs.Forest.{Forest, Tree, leaf, node, join, steps}
 use Rattle.svd_rows.specs.LookUps.{children_of}
 use Rattle.svd_rows.specs.Paths.{begins, fits, is_at, is_within}
 use Rattle.svd_rows.specs.RowEdits.{added, has_rank, is_below_rank, moved, renamed_path, some_pass, with_key, without}
-use Rattle.svd_rows.specs.Rows.{Row, Said, element, states, rows}
+use Rattle.svd_rows.specs.Rows.{Row, Said, states, rows}
 use Rattle.patch_sem.proofs.Renamed.{was_false}
-use Rattle.patch_sem.proofs.Outcomes.{not_refused}
 use Rattle.patch_sem.specs.declared.fault.PatchFault.{PatchFault}
 use Rattle.patch_sem.specs.declared.fault.PatchFault.TheVariants.{AddExists, CopyMissing}
 use Rattle.patch_sem.specs.Copying.{copied_from, copying, group_of, renamed_step}

@@ -1,5 +1,5 @@
 -- What a deletion matched is gone.
-use Rattle.std.proofs.Common.{◌≡◌, ℕ, Bool, true, false, not, ◌&&◌, cond, List, [], ◌∷◌, filter, Ok, refl, sym, ap, ◌∙◌, subst}
+use Rattle.std.proofs.Common.{◌≡◌, ℕ, Bool, true, false, not, ◌&&◌, cond, List, [], ◌∷◌, filter, Ok, refl, ◌∙◌, subst}
 use Rattle.std.proofs.lemmas.Bool.{cond-false}
 use Rattle.patch_model.specs.Acts.{PatternItems}
 use Rattle.svd_model.specs.Keys.{Key}
@@ -7,7 +7,7 @@ use Rattle.svd_model.specs.Steps.{Step}
 use Rattle.svd_rows.specs.LookUps.{children_of, child_step}
 use Rattle.svd_rows.specs.Paths.{begins}
 use Rattle.svd_rows.specs.RowEdits.{without}
-use Rattle.svd_rows.specs.Rows.{Row, Said, element, states}
+use Rattle.svd_rows.specs.Rows.{Said, element, states}
 use Rattle.patch_sem.proofs.Outcomes.{some_matched}
 use Rattle.patch_sem.specs.Patching.{deleting}
 use Rattle.patch_sem.specs.Selecting.{Rows, selected, selects}

@@ -1,5 +1,5 @@
 -- Two exchanges in a list, whose tests no item passes both.
-use Rattle.std.proofs.Common.{◌≡◌, Bool, true, false, not, cond, List, [], ◌∷◌, ◌++◌, filter, refl, sym, ap, ap₂, ◌∙◌}
+use Rattle.std.proofs.Common.{◌≡◌, Bool, true, false, not, List, [], ◌∷◌, ◌++◌, filter, refl, sym, ap, ap₂, ◌∙◌}
 use Rattle.std.proofs.lemmas.List.Elements.{filter-append}
 use Rattle.svd_rows.proofs.Passing.{exchanged-before, filter-none, filter-not_none}
 use Rattle.svd_rows.specs.RowEdits.{exchanged, some_pass}

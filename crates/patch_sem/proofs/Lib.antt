@@ -1,6 +1,6 @@
-mod Commuting
+pub mod Commuting
 mod Copied
 mod Deleting
 mod Exchanges
-mod Outcomes
+pub mod Outcomes
 mod Renamed

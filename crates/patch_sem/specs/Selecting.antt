@@ -33,10 +33,11 @@ is_named name step = is_patched step.kind && bytes_eq name step.name
 abbrev pub selected : PatternItems → Rows → List Step
 selected pattern all = filter (selects pattern) (children_of all)
 
+-- the kind of the last step, or this one where there is none
+unfoldable pub last_kind : Option Kind → List Step → Option Kind
+last_kind kind [] = kind
+last_kind kind (step ∷ below) = last_kind (Some step.kind) below
+
 -- the kind of the element of a path; the device has none
-unfoldable pub kind_at : List Step → Option Kind
-kind_at path = after None path
-  where
-    after : Option Kind → List Step → Option Kind
-    after kind [] = kind
-    after kind (step ∷ below) = after (Some step.kind) below
+abbrev pub kind_at : List Step → Option Kind
+kind_at path = last_kind None path

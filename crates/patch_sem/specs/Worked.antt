@@ -26,13 +26,13 @@ use Rattle.patch_sem.specs.Copying.{group_of, copying}
 use Rattle.patch_sem.specs.Likeness.{same_rows}
 use Rattle.patch_sem.specs.Modifying.{modified_each, modifying}
 use Rattle.patch_sem.specs.Patching.{opening, deleting, done_at, put_inside, within_limit, applied_at, applied_to, applied, patched}
-use Rattle.patch_sem.specs.Selecting.{Rows, selects, is_named, kind_at}
+use Rattle.patch_sem.specs.Selecting.{Rows, selects, is_named, last_kind}
 use Rattle.patch_sem.specs.Settings.{set_by, key_set, place_set, keys_set, with_keys, keys_with}
 use Rattle.patch_sem.specs.Stripping.{stripped, pairs_behind, first_clash, stripping}
 
 -- what a command is computed with
 words : Unit {0}
-unfolding opening deleting done_at put_inside within_limit applied_at applied_to applied patched made_rows first_missing adding members put_in ordered_by by_offset neighbours first_uneven arraying group_of copying same_rows modified_each modifying selects is_named kind_at set_by key_set place_set keys_set with_keys keys_with stripped pairs_behind first_clash stripping item_fits taken passes_behind_some number_of range_of name_of label_of is_name is_label path_of parts_of onto_first elements_of rank value_of same_step inside keys_of top_key children_of child_step element_paths ends_with begins fits set_key some_pass added_behind exchanged without renamed_path is_below_rank has_rank with_key own under under_path is_element key_name row_of number_given bounded read_number read_unsigned read_digits read_on split_mark without_plus read_place read_until behind value_before place_at_end stripped_of
+unfolding opening deleting done_at put_inside within_limit applied_at applied_to applied patched made_rows first_missing adding members put_in ordered_by by_offset neighbours first_uneven arraying group_of copying same_rows modified_each modifying selects is_named last_kind set_by key_set place_set keys_set with_keys keys_with stripped pairs_behind first_clash stripping item_fits taken passes_behind_some number_of range_of name_of label_of is_name is_label path_of parts_of onto_first elements_of rank value_of same_step inside keys_of top_key children_of child_step element_paths ends_with begins fits set_key some_pass added_behind exchanged without renamed_path is_below_rank has_rank with_key own under under_path is_element key_name row_of number_given bounded read_number read_unsigned read_digits read_on split_mark without_plus read_place read_until behind value_before place_at_end stripped_of
 words = tt
 
 -- ---- rows

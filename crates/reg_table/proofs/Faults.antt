@@ -12,7 +12,7 @@ use Rattle.reg_table.proofs.Tables.{ends-with, properties-down, address-down, de
 use Rattle.svd_model.specs.declared.device.Device.{Device}
 use Rattle.svd_model.specs.declared.props.Props.{Props}
 use Rattle.svd_model.specs.Checking.{bad_width, address_range, field_range, bytes_of, is_size, is_field_within, size_down, width_down, is_past, some_past, has_past_member, bad_widths, past_ranges, fields_past, loose_faults}
-use Rattle.svd_model.specs.Facts.{IsUnfoldedElement, IsChecked, IsArrayDim}
+use Rattle.svd_model.specs.Facts.{IsUnfolded, IsUnfoldedElement, IsChecked, IsArrayDim}
 use Rattle.svd_model.specs.Keys.{Key, dim_count}
 use Rattle.svd_model.specs.Properties.{nearest}
 use Rattle.svd_model.specs.Stating.{value_of, stated_dim, stated_base, stated_offset, stated_increment, is_of, start_of, properties_of, address_of, indexes_of, choices, members_of, paths_of, paths_of_kind, keys_down, keys_at}
@@ -204,16 +204,12 @@ module _ (all : List (Row Step Key)) where
     fields = λ yes. not_false _ (fields yes);
   }
 
-  all-told : loose_faults all ≡ [] → AllByRecursion Told (visits_of all)
-  unfolding loose_faults bad_widths past_ranges fields_past paths_of_kind visits_of
-  all-told none =
-      let one = append-none _ _ none in
-      let two = append-none _ _ one.1 in
-      let three = append-none _ _ two.1 in
-      let four = append-none _ _ three.1 in
-      let sized = none-pass_of (λ path. not (is_size (size_down (keys_down all path)))) (ends_with (is_of register)) (paths_of all) (map-none bad_width _ one.0) in
-      let past = none-pass (has_past_member all) (paths_of all) (map-none address_range _ two.0) in
-      let fields = none-pass_of (λ path. not (is_field_within (bits_of (width_down (keys_down all path))) (keys_at all path))) (ends_with (is_of field)) (paths_of all) (map-none field_range _ four.0) in
+  all-told : bad_widths all ≡ [] → past_ranges all ≡ [] → fields_past all ≡ [] → AllByRecursion Told (visits_of all)
+  unfolding bad_widths past_ranges fields_past paths_of_kind visits_of
+  all-told no_width no_range no_field =
+      let sized = none-pass_of (λ path. not (is_size (size_down (keys_down all path)))) (ends_with (is_of register)) (paths_of all) no_width in
+      let past = none-pass (has_past_member all) (paths_of all) no_range in
+      let fields = none-pass_of (λ path. not (is_field_within (bits_of (width_down (keys_down all path))) (keys_at all path))) (ends_with (is_of field)) (paths_of all) no_field in
       joined (visit_at all) (λ path. has_past_member all path ≡ false) (λ path. ends_with (is_of register) path ≡ true → not (is_size (size_down (keys_down all path))) ≡ false) (λ path. ends_with (is_of field) path ≡ true → not (is_field_within (bits_of (width_down (keys_down all path))) (keys_at all path)) ≡ false) Told told-at (paths_of all) past sized fields
 
 -- ---- the elements that the walk meets
@@ -250,13 +246,23 @@ fit-visits path down chosen (node s ks c n) told elements distinct has = (
   fit-visits path down chosen n (every-right Told (visits (path ++ s ∷ []) (down ++ ks ∷ []) c) (visits path down n) told.1) elements.2 distinct.2 has,
 )
 
--- a checked device fits
-pub checked-fits : (device : Device) → IsChecked device → FitIn 0 device.props (device_tree device).below
+-- a device fits whose registers have a size, and whose registers and fields lie within the addresses and registers
+pub sound-fits : (device : Device) → IsUnfolded device → bad_widths (device_rows device) ≡ [] → past_ranges (device_rows device) ≡ [] → fields_past (device_rows device) ≡ [] → FitIn 0 device.props (device_tree device).below
 unfolding device_tree
-checked-fits device checked =
+sound-fits device unfolded no_width no_range no_field =
     let keys = stated (device_places device) in
-    let told = subst (λ (all : List Visit). AllByRecursion Told all) (walk-rows (device_tree device) (distinct-steps device checked.unfolded)) (all-told (device_rows device) checked.faultless) in
+    let told = subst (λ (all : List Visit). AllByRecursion Told all) (walk-rows (device_tree device) (distinct-steps device unfolded)) (all-told (device_rows device) no_width no_range no_field) in
     let none : HasMembers keys = λ e. absurd (let no = sym (device-dim device) ∙ e in cc) in
-    let fit = fit-visits [] (keys ∷ []) (None ∷ []) (device_tree device).below told.1 checked.unfolded.elements (distinct-steps device checked.unfolded) (none, tt, tt) in
+    let fit = fit-visits [] (keys ∷ []) (None ∷ []) (device_tree device).below told.1 unfolded.elements (distinct-steps device unfolded) (none, tt, tt) in
     let moved : ◌≡◌ {A = ℕ × Props} (address_of (keys ∷ []) (None ∷ []), properties_of (keys ∷ [])) (0, device.props) = λ i. (device-address device i, device-holds device i) in
     subst (λ (x : ℕ × Props). FitIn x.0 x.1 (device_tree device).below) moved fit
+
+-- a checked device fits
+pub checked-fits : (device : Device) → IsChecked device → FitIn 0 device.props (device_tree device).below
+unfolding loose_faults
+checked-fits device checked =
+    let one = append-none _ _ checked.faultless in
+    let two = append-none _ _ one.1 in
+    let three = append-none _ _ two.1 in
+    let four = append-none _ _ three.1 in
+    sound-fits device checked.unfolded (map-none bad_width _ one.0) (map-none address_range _ two.0) (map-none field_range _ four.0)

@@ -37,7 +37,7 @@ abbrev pub rows_of_fields : Bool → Bool → Register → List FieldRow
 rows_of_fields readable writable r = map (λ entry. field_row readable writable r.kind (field_part entry)) r.fields.entries
 
 module _ (r : Register) (distinct : IsDistinct same_step (register_tree r).below) where
-  parts-register : parts (rows (register_tree r)) ≡ map field_part r.fields.entries
+  pub parts-register : parts (rows (register_tree r)) ≡ map field_part r.fields.entries
   parts-register =
       parts-rows (register_tree r) distinct
       ∙ ap (map part_of) (listed-siblings (map field_under r.fields.entries))
@@ -47,7 +47,7 @@ module _ (r : Register) (distinct : IsDistinct same_step (register_tree r).below
   accesses [] = refl
   accesses (entry ∷ entries) = ap₂ (λ a others. a ∷ others) (access-field entry.0 entry.1) (accesses entries)
 
-  access-register : (outer : Props) → access_of (register_properties r outer) (rows (register_tree r)) ≡ access_at r outer
+  pub access-register : (outer : Props) → access_of (register_properties r outer) (rows (register_tree r)) ≡ access_at r outer
   access-register outer =
       ap (λ all. unwrap_or (register_properties r outer).access (access_by_fields all))
       (ap (map (λ part. value_of stated_access (keys_of part.1))) parts-register ∙ accesses r.fields.entries)

@@ -84,7 +84,7 @@ sets-field field distinct = ap (map set_part) (parts-rows (field_tree field) dis
 -- ---- a field
 
 module _ (key : Sibling) (field : Field) where
-  keys-field : keys_of (rows (field_tree field)) ≡ stated (field_places field)
+  pub keys-field : keys_of (rows (field_tree field)) ≡ stated (field_places field)
   keys-field = keys_of-rows (field_tree field)
 
   pub width-field : width_in (keys_of (rows (field_tree field))) ≡ unwrap_or field.place.width 1

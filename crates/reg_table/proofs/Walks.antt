@@ -119,7 +119,7 @@ unfolding Every numbered
 sets-plain n [] = tt
 sets-plain n (v ∷ sets) = (refl, values-plain 0 v.items.items, sets-plain (n + 1) sets)
 
-fields-plain : (entries : List (Sibling × Field)) → Every (λ step keys. is_of register step ≡ false) (siblings (map field_under entries))
+pub fields-plain : (entries : List (Sibling × Field)) → Every (λ step keys. is_of register step ≡ false) (siblings (map field_under entries))
 unfolding Every siblings
 fields-plain [] = tt
 fields-plain (entry ∷ entries) = (refl, sets-plain 0 entry.1.values.items, fields-plain entries)
@@ -132,20 +132,20 @@ starts keys offset step base at increment index =
     let sums : (n : ℕ) → 0 + offset + n ≡ offset + n = λ n. omega arith in
     (λ i. unwrap_or (base i) 0 + unwrap_or (at i) 0 + unwrap_or index 0 * unwrap_or (increment i) 0) ∙ sums (unwrap_or index 0 * unwrap_or step 0)
 
-register-start : (r : Register) (index : Option ℕ) → start_of (stated (register_places r)) index ≡ r.offset + unwrap_or index 0 * unwrap_or r.dim.step 0
+pub register-start : (r : Register) (index : Option ℕ) → start_of (stated (register_places r)) index ≡ r.offset + unwrap_or index 0 * unwrap_or r.dim.step 0
 register-start r index = starts (stated (register_places r)) r.offset r.dim.step (register-base r) (register-offset r) (register-increment r) index
 
-cluster-start : {A B C : Type 0} (c : Cluster-F A B C) (index : Option ℕ) → start_of (stated (cluster_places c)) index ≡ c.offset + unwrap_or index 0 * unwrap_or c.dim.step 0
+pub cluster-start : {A B C : Type 0} (c : Cluster-F A B C) (index : Option ℕ) → start_of (stated (cluster_places c)) index ≡ c.offset + unwrap_or index 0 * unwrap_or c.dim.step 0
 cluster-start c index = starts (stated (cluster_places c)) c.offset c.dim.step (cluster-base c) (cluster-offset c) (cluster-increment c) index
 
-peripheral-start : (p : Peripheral) → start_of (stated (peripheral_places p)) None ≡ p.base
+pub peripheral-start : (p : Peripheral) → start_of (stated (peripheral_places p)) None ≡ p.base
 peripheral-start p =
     ap₂ (λ b o. unwrap_or b 0 + unwrap_or o 0 + 0 * unwrap_or (value_of stated_increment (stated (peripheral_places p))) 0) (peripheral-base p) (peripheral-offset p) ∙ omega arith
 
 -- ---- a register
 
 module _ (outer : Props) (key : Sibling) (r : Register) where
-  inside-register : props_inside (stated (register_places r)) outer ≡ holding (r.props ∷ outer ∷ [])
+  pub inside-register : props_inside (stated (register_places r)) outer ≡ holding (r.props ∷ outer ∷ [])
   inside-register = ap (λ p. holding (p ∷ outer ∷ [])) (register-props r)
 
   pub rows-register : (path : RowPath) (start : ℕ) (index : Option ℕ) → member_rows path start outer (register_under key r) index ≡ register_row (path_inside path key.name index) (start + (r.offset + unwrap_or index 0 * unwrap_or r.dim.step 0)) (holding (r.props ∷ outer ∷ [])) (rows (register_tree r)) ∷ []
@@ -220,7 +220,7 @@ module _ (outer : Props) (key : Sibling) (c : Cluster) where
   cluster_of : Tree Step Key
   cluster_of = record { keys = stated (cluster_places (out-Cluster c)); below = siblings (map item_under (out-Cluster c).children.items) }
 
-  inside-cluster : props_inside (stated (cluster_places (out-Cluster c))) outer ≡ holding ((out-Cluster c).props ∷ outer ∷ [])
+  pub inside-cluster : props_inside (stated (cluster_places (out-Cluster c))) outer ≡ holding ((out-Cluster c).props ∷ outer ∷ [])
   inside-cluster = ap (λ p. holding (p ∷ outer ∷ [])) (cluster-props (out-Cluster c))
 
   pub rows-cluster : (path : RowPath) (start : ℕ) (index : Option ℕ) → member_rows path start outer (cluster_under key c) index ≡ rows_in (path_inside path key.name index) (start + ((out-Cluster c).offset + unwrap_or index 0 * unwrap_or (out-Cluster c).dim.step 0)) (holding ((out-Cluster c).props ∷ outer ∷ [])) (siblings (map item_under (out-Cluster c).children.items))
@@ -260,7 +260,7 @@ register-count item r is = ap (λ (x : Step × Tree Step Key). value_of stated_d
 -- ---- a peripheral
 
 module _ (outer : Props) (key : Sibling) (p : Peripheral) (xs : List (Step × Tree Step Key)) where
-  inside-peripheral : props_inside (stated (peripheral_places p)) outer ≡ holding (p.props ∷ outer ∷ [])
+  pub inside-peripheral : props_inside (stated (peripheral_places p)) outer ≡ holding (p.props ∷ outer ∷ [])
   inside-peripheral = ap (λ q. holding (q ∷ outer ∷ [])) (peripheral-props p)
 
   pub rows-peripheral : rows_of_peripherals outer (siblings (peripheral_under (key, p) ∷ xs)) ≡ rows_in (peripheral_path key.name) p.base (holding (p.props ∷ outer ∷ [])) (siblings (map item_under p.children.items)) ++ rows_of_peripherals outer (siblings xs)

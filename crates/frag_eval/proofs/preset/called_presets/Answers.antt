@@ -6,7 +6,7 @@ use Rattle.frag_eval.proofs.Lines.{none-left}
 use Rattle.frag_eval.proofs.preset.called_presets.Goals as goal
 
 pub loop-line-init : goal.loop-line-init
-loop-line-init c = gathered_start (crate_tree c.args.krate.now) c.args.script.now.lines c.as_slice-rest.result.now c.new.result.items c.new-2.result.items c.as_slice-rest.ensures c.new.ensures.items c.new-2.ensures.items
+loop-line-init c = gathered_start (crate_tree c.args.krate.now) c.args.script.now.lines c.as_slice-rest.result.now c.new.result.keys c.new-2.result.items c.as_slice-rest.ensures c.new.ensures.empty c.new-2.ensures.items
 
 pub loop-line-preserved-in_ok-add_place : goal.loop-line-preserved-in_ok-add_place
 loop-line-preserved-in_ok-add_place c =

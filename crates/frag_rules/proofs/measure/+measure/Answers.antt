@@ -3,10 +3,9 @@ use Rattle.std.specs.List.{list_all}
 use Rattle.frag_tree.specs.Trees.{ModuleTree, Modules, block_tree, in_line, module_tree}
 use Rattle.frag_tree.proofs.Trees.{block_tree-is, module_tree-block, module_tree-register}
 use Rattle.frag_rules.specs.Gathering.{blocks_at}
-use Rattle.frag_rules.specs.Insides.{holds_nothing}
 use Rattle.frag_rules.specs.Measures.{Knows, measure_seen, measured, size_fits}
 use Rattle.frag_rules.proofs.Distinct.{drop-end}
-use Rattle.frag_rules.proofs.Insides.{if_ok, knows-begin}
+use Rattle.frag_rules.proofs.Insides.{knows-begin}
 use Rattle.frag_rules.proofs.Sizes.{all-known, all-sized, and-true, block-sized, measured-more, rest-is}
 use Rattle.frag_rules.proofs.measure.+measure.Goals as goal
 

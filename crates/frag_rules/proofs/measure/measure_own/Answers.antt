@@ -1,4 +1,4 @@
-use Rattle.std.proofs.Common.{sym, ap, ◌∙◌, subst, List}
+use Rattle.std.proofs.Common.{ap, ◌∙◌, subst, List}
 use Rattle.frag_sem.specs.CallPlaces.{field_named}
 use Rattle.frag_tree.specs.declared.block.StructField.{StructField}
 use Rattle.frag_tree.specs.Trees.{block_tree}

@@ -1,48 +1,29 @@
--- The kinds one after the other: the first that has a fault decides.
+-- The kinds before overlaps, overlaps, and the kind behind them: the first that has a fault decides.
 use Rattle.std.proofs.Common.{sym, ap, ◌∙◌}
-use Rattle.overlap_check.specs.declared.rule.Rule.TheVariants.{Range, Alignment, Fields}
-use Rattle.overlap_check.specs.Ruled.{broken_in, clashing_in}
+use Rattle.overlap_check.specs.Ruled.{clashing_in, fault_in, overlap_in}
 use Rattle.overlap_check.specs.Walks.{or_else}
 use Rattle.overlap_check.proofs.Firsts.{found_as}
 use Rattle.overlap_check.proofs.telling.first_fault.Goals as goal
 
+pub overlap-requires-clause-placed : goal.overlap-requires-clause-placed
+overlap-requires-clause-placed c = sym c.in_ok-place.ensures ∙ c.in_default.is
+
 pub returns-in-Some : goal.returns-in-Some
+unfolding fault_in
 returns-in-Some c =
-    let device = c.args.device.now in
-    let width = sym c.in_ok-width.ensures ∙ c.in-Some.is in
-    sym (ap (λ o. or_else o (or_else (broken_in Range device) (or_else (broken_in Alignment device) (or_else (broken_in Fields device) (clashing_in device))))) width)
+    let place = sym c.in_ok-place.ensures ∙ c.in-Some.is in
+    sym (ap (λ o. or_else o (or_else (overlap_in c.args.policy c.args.device.now) (clashing_in c.args.device.now))) place)
 
-pub returns-in-Some-range : goal.returns-in-Some-range
-returns-in-Some-range c =
-    let device = c.args.device.now in
-    let width = sym c.in_ok-width.ensures ∙ c.in_default.is in
-    let range = sym c.in_ok-range.ensures ∙ c.in-Some-range.is in
-    sym (λ i. or_else (width i) (or_else (range i) (or_else (broken_in Alignment device) (or_else (broken_in Fields device) (clashing_in device)))))
-
-pub returns-in-Some-alignment : goal.returns-in-Some-alignment
-returns-in-Some-alignment c =
-    let device = c.args.device.now in
-    let width = sym c.in_ok-width.ensures ∙ c.in_default.is in
-    let range = sym c.in_ok-range.ensures ∙ c.in_default-range.is in
-    let alignment = sym c.in_ok-alignment.ensures ∙ c.in-Some-alignment.is in
-    sym (λ i. or_else (width i) (or_else (range i) (or_else (alignment i) (or_else (broken_in Fields device) (clashing_in device)))))
-
-pub returns-in-Some-field : goal.returns-in-Some-field
-returns-in-Some-field c =
-    let device = c.args.device.now in
-    let width = sym c.in_ok-width.ensures ∙ c.in_default.is in
-    let range = sym c.in_ok-range.ensures ∙ c.in_default-range.is in
-    let alignment = sym c.in_ok-alignment.ensures ∙ c.in_default-alignment.is in
-    let field = sym c.in_ok-field.ensures ∙ c.in-Some-field.is in
-    sym (λ i. or_else (width i) (or_else (range i) (or_else (alignment i) (or_else (field i) (clashing_in device)))))
+pub returns-in-Some-overlap : goal.returns-in-Some-overlap
+unfolding fault_in
+returns-in-Some-overlap c =
+    let place = sym c.in_ok-place.ensures ∙ c.in_default.is in
+    let overlap = sym c.in_ok-overlap.ensures ∙ c.in-Some-overlap.is in
+    sym (λ i. or_else (place i) (or_else (overlap i) (clashing_in c.args.device.now)))
 
 pub returns : goal.returns
+unfolding fault_in
 returns c =
-    let device = c.args.device.now in
-    let width = sym c.in_ok-width.ensures ∙ c.in_default.is in
-    let range = sym c.in_ok-range.ensures ∙ c.in_default-range.is in
-    let alignment = sym c.in_ok-alignment.ensures ∙ c.in_default-alignment.is in
-    let field = sym c.in_ok-field.ensures ∙ c.in_default-field.is in
-    found_as c.clashing.result _ _
-    (sym (λ i. or_else (width i) (or_else (range i) (or_else (alignment i) (or_else (field i) (clashing_in device))))))
-    c.clashing.ensures
+    let place = sym c.in_ok-place.ensures ∙ c.in_default.is in
+    let overlap = sym c.in_ok-overlap.ensures ∙ c.in_default-overlap.is in
+    found_as c.clashing.result _ _ (sym (λ i. or_else (place i) (or_else (overlap i) (clashing_in c.args.device.now)))) c.clashing.ensures

@@ -1,19 +1,19 @@
 use Rattle.std.proofs.Common.{◌≡◌, ◌+◌, List, map, drop, codes, ap, subst, sym, ◌∙◌, arith}
 use Rattle.std.proofs.lemmas.Slice.Eq.{bytes_eq-Decides}
-use Rattle.patch_model.specs.Words.{key_kind}
+use Rattle.patch_form.specs.Words.{key_kind}
 use Rattle.yaml_block.specs.Nodes.{entry_under, node_tree}
 use Rattle.yaml_block.specs.Trees.{Tree, entries_of}
 use Rattle.yaml_block.proofs.Answers.{if_ok}
 use Rattle.patch_model.specs.declared.act.Additions.{Additions}
-use Rattle.patch_model.specs.declared.word.Purpose.TheVariants.{Adding}
+use Rattle.patch_form.specs.declared.word.Purpose.TheVariants.{Adding}
 use Rattle.patch_model.specs.Acts.{AddedOne, added, added_of, addition_under, additions_under}
-use Rattle.patch_model.specs.Answers.{AllMet}
-use Rattle.patch_model.specs.Demands.{addition_demands, each_key}
+use Rattle.patch_form.specs.Unmet.{AllMet}
+use Rattle.patch_form.specs.Demands.{addition_demands, each_key}
 use Rattle.patch_model.specs.Held.{AreAdditionsMet, AreKeysMet}
 use Rattle.patch_model.specs.Orders.{added_at, added_below, added_in, added_under, kept_keys, keys_of}
 use Rattle.patch_model.proofs.Adding.{addition_under-roll, joined, joined-none, joined-more, keys_met, children_met, others_met, registers_kind, fields_kind, at-passed, entry_met, rest_met}
-use Rattle.patch_model.proofs.Arms.{in_empty, in_scalar, in_any_list, in_map, out_map}
-use Rattle.patch_model.proofs.FromPlace.{from, from-done, from-here}
+use Rattle.patch_form.proofs.Arms.{in_empty, in_scalar, in_any_list, in_map, out_map}
+use Rattle.patch_form.proofs.FromPlace.{from, from-done, from-here}
 use Rattle.patch_model.proofs.Weighing.{less_at, less_inside}
 use Rattle.patch_model.proofs.added.+added.Goals as goal
 

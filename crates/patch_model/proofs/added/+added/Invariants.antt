@@ -2,11 +2,11 @@
 use Rattle.std.proofs.Common.{◌≡◌, ◌+◌}
 use Rattle.yaml_block.specs.Nodes.{node_tree}
 use Rattle.patch_model.specs.Acts.{additions_under}
-use Rattle.patch_model.specs.Answers.{AllMet}
-use Rattle.patch_model.specs.Demands.{addition_demands, each_key}
+use Rattle.patch_form.specs.Unmet.{AllMet}
+use Rattle.patch_form.specs.Demands.{addition_demands, each_key}
 use Rattle.patch_model.specs.Orders.{added_at, added_in}
 use Rattle.patch_model.proofs.Adding.{joined}
-use Rattle.patch_model.proofs.FromPlace.{from}
+use Rattle.patch_form.proofs.FromPlace.{from}
 use Rattle.patch_model.proofs.Weighing.{weight, weights_under}
 use Rattle.patch_model.proofs.added.+added.Given as goal
 

@@ -3,7 +3,7 @@ use Rattle.std.proofs.lemmas.Slice.Eq.{bytes_eq-Decides}
 use Rattle.yaml_block.specs.Nodes.{node_tree}
 use Rattle.glob_select.specs.Reading.{alternatives_of}
 use Rattle.patch_model.specs.Acts.{arrays}
-use Rattle.patch_model.specs.Demands.{At, at_key}
+use Rattle.patch_form.specs.Demands.{At, at_key}
 use Rattle.patch_model.specs.Orders.{NamedBy, name_by, name_for}
 use Rattle.patch_model.proofs.Copying.{array_met}
 use Rattle.patch_model.proofs.deed.array_act.Goals as goal

@@ -2,7 +2,7 @@ use Rattle.std.proofs.Common.{◌+◌, [], ◌∷◌, drop, sym, ap, ◌∙◌}
 use Rattle.std.proofs.lemmas.List.{drop_all}
 use Rattle.yaml_block.proofs.Places.{from_place}
 use Rattle.patch_model.specs.Acts.{PatternItems}
-use Rattle.patch_model.proofs.FromPlace.{made-more, made-done}
+use Rattle.patch_form.proofs.FromPlace.{made-more, made-done}
 use Rattle.patch_model.proofs.deed.copied.Goals as goal
 
 pub loop-pattern-preserved : goal.loop-pattern-preserved

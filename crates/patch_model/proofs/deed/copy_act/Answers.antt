@@ -1,9 +1,9 @@
 use Rattle.std.proofs.Common.{◌≡◌, codes, ap, subst, sym, ◌∙◌}
 use Rattle.std.proofs.lemmas.Slice.Eq.{bytes_eq-Decides}
 use Rattle.yaml_block.specs.Nodes.{node_tree}
-use Rattle.patch_model.specs.declared.word.Purpose.TheVariants.{Copying}
+use Rattle.patch_form.specs.declared.word.Purpose.TheVariants.{Copying}
 use Rattle.patch_model.specs.Acts.{copies}
-use Rattle.patch_model.specs.Demands.{at_key}
+use Rattle.patch_form.specs.Demands.{at_key}
 use Rattle.patch_model.specs.Orders.{NamedAt, kept_keys, keys_of, text_of, text_there}
 use Rattle.patch_model.proofs.Copying.{copy_named}
 use Rattle.patch_model.proofs.deed.copy_act.Goals as goal

@@ -1,8 +1,8 @@
 use Rattle.std.proofs.Common.{◌≡◌, ◌+◌, ◌++◌, ap, ◌∙◌, arith}
 use Rattle.yaml_block.specs.Nodes.{node_tree}
 use Rattle.patch_model.specs.Orders.{counts, kept_key, kept_keys}
-use Rattle.patch_model.specs.Words.{key_kind}
-use Rattle.patch_model.proofs.FromPlace.{from, from-done, from-here, made-more, made-done}
+use Rattle.patch_form.specs.Words.{key_kind}
+use Rattle.patch_form.proofs.FromPlace.{from, from-done, from-here, made-more, made-done}
 use Rattle.patch_model.proofs.kept.kept_keys.Goals as goal
 
 pub loop-entry-preserved : goal.loop-entry-preserved

@@ -1,8 +1,8 @@
 use Rattle.std.proofs.Common.{◌≡◌, map, refl}
 use Rattle.yaml_block.specs.Nodes.{entry_under}
 use Rattle.yaml_block.specs.Trees.{Tree, no_entries, entries_of}
-use Rattle.patch_model.specs.Parts.{entries_in}
-use Rattle.patch_model.proofs.Arms.{in_empty, in_scalar, in_any_list, in_map}
+use Rattle.patch_form.specs.Parts.{entries_in}
+use Rattle.patch_form.proofs.Arms.{in_empty, in_scalar, in_any_list, in_map}
 use Rattle.patch_model.proofs.leaf.entries_in.Goals as goal
 
 pub returns-in-Empty : goal.returns-in-Empty

@@ -3,7 +3,7 @@ use Rattle.yaml_block.specs.Nodes.{node_tree}
 use Rattle.patch_model.specs.Acts.{Deed, order_of}
 use Rattle.patch_model.specs.Held.{EachDeed}
 use Rattle.patch_model.specs.Orders.{entry_deed, entry_orders, order}
-use Rattle.patch_model.proofs.FromPlace.{from, from-done, from-here, made-more, made-done}
+use Rattle.patch_form.proofs.FromPlace.{from, from-done, from-here, made-more, made-done}
 use Rattle.patch_model.proofs.listed.entry_commands.Goals as goal
 
 pub entry_act-requires : goal.entry_act-requires

@@ -3,7 +3,7 @@ use Rattle.std.proofs.Common.{◌≡◌, ◌++◌, map}
 use Rattle.patch_model.specs.Acts.{order_of}
 use Rattle.patch_model.specs.Held.{EachDeed}
 use Rattle.patch_model.specs.Orders.{entry_orders}
-use Rattle.patch_model.proofs.FromPlace.{from}
+use Rattle.patch_form.proofs.FromPlace.{from}
 use Rattle.patch_model.proofs.listed.entry_commands.Given as goal
 
 abbrev pub invariant-loop-entry : goal.invariant-loop-entry

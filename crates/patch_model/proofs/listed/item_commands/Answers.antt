@@ -2,10 +2,10 @@ use Rattle.std.proofs.Common.{◌+◌, ◌++◌, drop, map, subst, arith}
 use Rattle.yaml_block.specs.Nodes.{item_under, node_tree}
 use Rattle.yaml_block.specs.Trees.{items_of}
 use Rattle.patch_model.specs.Acts.{order_of}
-use Rattle.patch_model.specs.Answers.{AllMet}
+use Rattle.patch_form.specs.Unmet.{AllMet}
 use Rattle.patch_model.specs.Held.{item_demands}
 use Rattle.patch_model.specs.Orders.{item_orders, text_deed, text_order}
-use Rattle.patch_model.proofs.FromPlace.{items_from, items-done, items-here, made-more, made-done}
+use Rattle.patch_form.proofs.FromPlace.{items_from, items-done, items-here, made-more, made-done}
 use Rattle.patch_model.proofs.HeldParts.{items_met}
 use Rattle.patch_model.proofs.listed.item_commands.Goals as goal
 

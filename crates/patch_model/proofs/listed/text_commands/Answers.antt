@@ -2,10 +2,10 @@ use Rattle.std.proofs.Common.{ap, map, ◌++◌, ◌∙◌}
 use Rattle.yaml_block.specs.Nodes.{item_under, node_tree}
 use Rattle.yaml_block.specs.Trees.{Tree, items_of}
 use Rattle.patch_model.specs.Acts.{Deed, GrowsBy, deed_of, order_of}
-use Rattle.patch_model.specs.Answers.{AllMet}
+use Rattle.patch_form.specs.Unmet.{AllMet}
 use Rattle.patch_model.specs.Held.{texts_demands}
 use Rattle.patch_model.specs.Orders.{item_orders, order, text_deed, texts_orders}
-use Rattle.patch_model.proofs.Arms.{in_empty, in_scalar, in_any_map, in_list, out_scalar, out_list}
+use Rattle.patch_form.proofs.Arms.{in_empty, in_scalar, in_any_map, in_list, out_scalar, out_list}
 use Rattle.patch_model.proofs.Growing.{grown-none, on_ok}
 use Rattle.patch_model.proofs.HeldParts.{scalar_met, list_met}
 use Rattle.patch_model.proofs.listed.text_commands.Goals as goal

@@ -2,16 +2,16 @@ use Rattle.std.proofs.Common.{◌≡◌, ◌+◌, [], ◌∷◌, ◌++◌, map, 
 use Rattle.glob_select.specs.Reading.{alternatives_of}
 use Rattle.yaml_block.specs.Nodes.{entry_under, node_tree}
 use Rattle.yaml_block.specs.Trees.{Tree, entries_of}
-use Rattle.patch_model.specs.declared.word.KeyWord.{KeyWord}
+use Rattle.patch_form.specs.declared.word.KeyWord.{KeyWord}
 use Rattle.patch_model.specs.Acts.{GrowsBy, order_of}
-use Rattle.patch_model.specs.Answers.{AllMet}
+use Rattle.patch_form.specs.Unmet.{AllMet}
 use Rattle.patch_model.specs.Held.{opened_part}
-use Rattle.patch_model.specs.Mappings.{entry_demands, mapping_demands, opened_demands}
+use Rattle.patch_form.specs.Mappings.{entry_demands, mapping_demands, opened_demands}
 use Rattle.patch_model.specs.Orders.{mapping_orders, opened_at, opened_orders, orders_below}
-use Rattle.patch_model.specs.Words.{key_word}
-use Rattle.patch_model.proofs.Arms.{in_empty, in_scalar, in_any_list, in_map, out_map}
+use Rattle.patch_form.specs.Words.{key_word}
+use Rattle.patch_form.proofs.Arms.{in_empty, in_scalar, in_any_list, in_map, out_map}
 use Rattle.patch_model.proofs.Copying.{met_left, met_right}
-use Rattle.patch_model.proofs.FromPlace.{from, from-done, from-here, made-more, made-done}
+use Rattle.patch_form.proofs.FromPlace.{from, from-done, from-here, made-more, made-done}
 use Rattle.patch_model.proofs.Growing.{grown-none, on_ok}
 use Rattle.patch_model.proofs.HeldParts.{opened_met}
 use Rattle.patch_model.proofs.Weighing.{less_at, less_inside}

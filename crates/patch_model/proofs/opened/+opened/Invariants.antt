@@ -2,10 +2,10 @@
 use Rattle.std.proofs.Common.{◌≡◌, ◌+◌, ◌++◌, map}
 use Rattle.yaml_block.specs.Nodes.{node_tree}
 use Rattle.patch_model.specs.Acts.{order_of}
-use Rattle.patch_model.specs.Answers.{AllMet}
-use Rattle.patch_model.specs.Mappings.{mapping_demands}
+use Rattle.patch_form.specs.Unmet.{AllMet}
+use Rattle.patch_form.specs.Mappings.{mapping_demands}
 use Rattle.patch_model.specs.Orders.{mapping_orders, opened_orders}
-use Rattle.patch_model.proofs.FromPlace.{from}
+use Rattle.patch_form.proofs.FromPlace.{from}
 use Rattle.patch_model.proofs.Weighing.{weight, weights_under}
 use Rattle.patch_model.proofs.opened.+opened.Given as goal
 

@@ -1,14 +1,14 @@
 use Rattle.std.proofs.Common.{◌≡◌, ◌+◌, ◌++◌, map, ap, subst, sym, ◌∙◌, arith}
 use Rattle.yaml_block.specs.Nodes.{node_tree}
-use Rattle.patch_model.specs.declared.word.KeyWord.{KeyWord}
+use Rattle.patch_form.specs.declared.word.KeyWord.{KeyWord}
 use Rattle.patch_model.specs.Acts.{order_of}
-use Rattle.patch_model.specs.Answers.{AllMet}
+use Rattle.patch_form.specs.Unmet.{AllMet}
 use Rattle.patch_model.specs.Held.{command_part}
-use Rattle.patch_model.specs.Mappings.{entry_demands, mapping_demands, opened_demands}
+use Rattle.patch_form.specs.Mappings.{entry_demands, mapping_demands, opened_demands}
 use Rattle.patch_model.specs.Orders.{orders_at, orders_of}
-use Rattle.patch_model.specs.Words.{key_word}
+use Rattle.patch_form.specs.Words.{key_word}
 use Rattle.patch_model.proofs.Copying.{met_left, met_right}
-use Rattle.patch_model.proofs.FromPlace.{from, from-done, from-here, made-more, made-done}
+use Rattle.patch_form.proofs.FromPlace.{from, from-done, from-here, made-more, made-done}
 use Rattle.patch_model.proofs.HeldParts.{command_met}
 use Rattle.patch_model.proofs.own.commands_of.Goals as goal
 

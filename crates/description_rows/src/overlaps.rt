@@ -1,0 +1,112 @@
+use dim_expand::unfold;
+use overlap_check::{Policy, check};
+use pac_fault::{PacFault, fault_line};
+use pac_io::MemSink;
+use std::alloc::Global;
+use std::test::Fail;
+use svd_model::{Derived, Patched};
+use svd_reader::read_device;
+
+// What stands in a peripheral, and the line of the first fault where overlaps are asked for.
+const ROWS: [(&str, &str, &str); 11] = [
+    (
+        "two registers at one address",
+        "<register><name>CCMR1_OUTPUT</name><addressOffset>0x18</addressOffset></register><register><name>CCMR1_INPUT</name><addressOffset>0x18</addressOffset></register>",
+        "pac: T.CCMR1_OUTPUT and T.CCMR1_INPUT overlap\n",
+    ),
+    (
+        "an alternate register",
+        "<register><name>CCMR1_OUTPUT</name><addressOffset>0x18</addressOffset></register><register><name>CCMR1_INPUT</name><addressOffset>0x18</addressOffset><alternateRegister>CCMR1_OUTPUT</alternateRegister></register>",
+        "",
+    ),
+    (
+        "a group of alternates",
+        "<register><name>A</name><addressOffset>0</addressOffset></register><register><name>B</name><addressOffset>0</addressOffset><alternateGroup>G</alternateGroup></register>",
+        "",
+    ),
+    (
+        "the least second and then the least first",
+        "<register><name>A</name><addressOffset>0</addressOffset></register><register><name>B</name><addressOffset>2</addressOffset><size>16</size></register><register><name>C</name><addressOffset>0</addressOffset><size>8</size></register>",
+        "pac: T.A and T.B overlap\n",
+    ),
+    (
+        "arrays whose members stand between each other",
+        "<register><name>A[%s]</name><dim>3</dim><dimIncrement>8</dimIncrement><addressOffset>0</addressOffset></register><register><name>B[%s]</name><dim>3</dim><dimIncrement>8</dimIncrement><addressOffset>4</addressOffset></register>",
+        "",
+    ),
+    (
+        "two members of one array",
+        "<register><name>A[%s]</name><dim>3</dim><addressOffset>4</addressOffset></register>",
+        "pac: T.A[0] and T.A[1] overlap\n",
+    ),
+    (
+        "a member of a list by its name",
+        "<register><name>CH%s</name><dim>2</dim><dimIncrement>4</dimIncrement><addressOffset>0</addressOffset></register><register><name>ALL</name><addressOffset>0</addressOffset><size>64</size><alternateRegister>CH0</alternateRegister></register>",
+        "pac: T.CH1 and T.ALL overlap\n",
+    ),
+    (
+        "a register and one in a cluster with an alternate",
+        "<register><name>A</name><addressOffset>0</addressOffset></register><cluster><name>C</name><alternateCluster>D</alternateCluster><addressOffset>0</addressOffset><register><name>B</name><addressOffset>0</addressOffset></register></cluster>",
+        "",
+    ),
+    (
+        "two members of a cluster with an alternate",
+        "<cluster><name>C[%s]</name><dim>2</dim><alternateCluster>D</alternateCluster><addressOffset>0</addressOffset><register><name>B</name><addressOffset>0</addressOffset></register></cluster>",
+        "pac: T.C[0].B and T.C[1].B overlap\n",
+    ),
+    (
+        "a register whose own alternate is a cluster",
+        "<cluster><name>C</name><addressOffset>0</addressOffset><register><name>B</name><addressOffset>0</addressOffset></register></cluster><register><name>A</name><addressOffset>0</addressOffset><alternateRegister>C</alternateRegister></register>",
+        "pac: T.C.B and T.A overlap\n",
+    ),
+    (
+        "fields",
+        "<register><name>R[%s]</name><dim>2</dim><dimIncrement>4</dimIncrement><addressOffset>0</addressOffset><fields><field><name>A</name><bitRange>[3:0]</bitRange><access>read-only</access></field><field><name>B</name><bitRange>[3:0]</bitRange><access>write-only</access></field><field><name>C</name><bitRange>[7:3]</bitRange><access>write-only</access></field></fields></register>",
+        "pac: T.R[%s].B and T.R[%s].C overlap\n",
+    ),
+];
+
+/// The first fault of a description where overlaps are asked for.
+fn fault(alloc: Global, text: &str) -> Result<Option<PacFault>, Fail> {
+    if text.len() > 67_108_864 {
+        return Ok(None);
+    }
+    let described = read_device(alloc, text.as_bytes())?;
+    let Ok(derived) = Derived::of(alloc, Patched::of(described)) else {
+        return Ok(None);
+    };
+    let Ok(unfolded) = unfold(alloc, derived) else {
+        return Ok(None);
+    };
+    match check(alloc, unfolded, Policy::Strict) {
+        Ok(_) => Ok(None),
+        Err(back) => Ok(Some(PacFault::Check(back.fault))),
+    }
+}
+
+/// The line of that fault, which is empty where there is none.
+fn line(alloc: Global, text: &str) -> Result<MemSink, Fail> {
+    let mut line = MemSink::new(alloc);
+    if let Some(fault) = fault(alloc, text)? {
+        fault_line(alloc, &fault)?.finish(&mut line)?;
+    }
+    Ok(line)
+}
+
+/// A description with one peripheral `T` at 0x40000000 that holds these registers.
+fn described(rt: &impl AllocGlobal, registers: &str) -> Result<String, Fail> {
+    Ok(format!(in rt.alloc();
+        "<device><name>D</name><peripherals><peripheral><name>T</name><baseAddress>0x40000000</baseAddress><registers>{}</registers></peripheral></peripherals></device>",
+        registers
+    )?)
+}
+
+#[test]
+fn overlaps_are_refused_where_they_are_asked_for(rt: HostRuntime) -> Result<(), Fail> {
+    for (row, registers, wanted) in ROWS {
+        let text = described(&rt, registers)?;
+        let told = line(rt.alloc(), text.as_str())?;
+        assert!(rt; told.written() == wanted.as_bytes(), "{row}");
+    }
+    Ok(())
+}

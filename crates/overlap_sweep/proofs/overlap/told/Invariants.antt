@@ -1,0 +1,7 @@
+-- The steps before the index are told.
+use Rattle.std.proofs.Common.{◌≡◌, take}
+use Rattle.overlap_sweep.specs.Spots.{told_way}
+use Rattle.overlap_sweep.proofs.overlap.told.Given as goal
+
+abbrev pub invariant-loop-step : goal.invariant-loop-step
+invariant-loop-step l = l.path ≡ told_way (take l.step-index l.way)

@@ -1,0 +1,28 @@
+use Rattle.std.proofs.Common.{map, refl}
+use Rattle.patch_model.specs.Acts.{deletes}
+use Rattle.patch_edits.proofs.Applying.{device-applied, device-folded}
+use Rattle.patch_edits.proofs.Deleting.{deletion-agrees, deletion-distinct, deletion-every, deletion-shrinks}
+use Rattle.patch_edits.specs.Commands.{order_at}
+use Rattle.patch_edits.specs.Deletions.{deleted_below}
+use Rattle.patch_sem.specs.Selecting.{selects}
+use Rattle.svd_model.specs.Facts.{IsElement, IsPlacedOrDerived}
+use Rattle.svd_model.specs.Trees.{device_places, device_tree, peripheral_under}
+use Rattle.svd_rows.specs.Forest.{siblings}
+use Rattle.svd_rows.specs.Ranks.{stated}
+use Rattle.patch_edits.proofs.deletion.delete.Goals as goal
+
+pub returns-clause-applied : goal.returns-clause-applied
+unfolding device_tree device_places
+returns-clause-applied c =
+    device-applied (order_at c.args.line c.args.parents.now (deletes c.args.pattern.now)) (deleted_below c.args.line c.args.pattern.now)
+    (deletion-agrees c.args.line c.args.pattern.now c.args.parents.now) (deletion-shrinks c.args.line c.args.pattern.now)
+    (stated (device_places c.args.device.now)) (siblings (map peripheral_under c.args.device.now.peripherals.entries)) (siblings (map peripheral_under c.walk.new.peripherals.entries))
+    c.walk.result c.requires.distinct c.requires.few refl c.walk.ensures
+
+pub returns-clause-described : goal.returns-clause-described
+unfolding device_tree device_places
+returns-clause-described c =
+    device-folded IsPlacedOrDerived (deleted_below c.args.line c.args.pattern.now) (map selects c.args.parents.now) (deletion-shrinks c.args.line c.args.pattern.now)
+    (deletion-every c.args.line c.args.pattern.now (IsElement IsPlacedOrDerived)) (deletion-distinct c.args.line c.args.pattern.now)
+    (stated (device_places c.args.device.now)) (siblings (map peripheral_under c.args.device.now.peripherals.entries)) (siblings (map peripheral_under c.walk.new.peripherals.entries))
+    c.walk.result c.requires c.walk.ensures

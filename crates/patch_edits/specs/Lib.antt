@@ -1,0 +1,4 @@
+pub mod Visits
+pub mod Edits
+pub mod Deletions
+pub mod Commands

@@ -1,0 +1,13 @@
+// What commands of a patch do to the tree of a description: a walk along a command's patterns, and an edit of the children of
+// each element that they lead to.
+#![tactic(auto)]
+
+mod deletion;
+mod edit;
+mod opening;
+mod walking;
+
+pub use deletion::delete;
+pub use edit::Edit;
+pub use opening::open;
+pub use walking::walk;

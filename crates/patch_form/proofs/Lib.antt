@@ -1,0 +1,11 @@
+pub mod Deciding
+pub mod Finding
+pub mod ArrayNames
+pub mod FromPlace
+pub mod Arms
+pub mod Coding
+pub mod Trimming
+pub mod Dots
+pub mod Placing
+pub mod Keys
+pub mod ListedTexts

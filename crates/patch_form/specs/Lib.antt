@@ -1,0 +1,9 @@
+pub mod Words
+pub mod Forms
+pub mod Demands
+pub mod Mappings
+pub mod Parts
+pub mod Unmet
+pub mod Finding
+pub mod Naming
+pub mod Codes

@@ -1,7 +1,0 @@
-use Rattle.patch_model.specs.Mappings.{word_entries}
-use Rattle.patch_model.proofs.Finding.{Past}
-use Rattle.patch_model.proofs.FromPlace.{from}
-use Rattle.patch_model.proofs.mapping.word_faults.Given as goal
-
-abbrev pub invariant-loop-entry : goal.invariant-loop-entry
-invariant-loop-entry l = Past (from (word_entries l.word l.device) l.entries 0) (from (word_entries l.word l.device) l.entries l.entry-index) l.found

@@ -1,6 +1,0 @@
-use Rattle.std.proofs.Common.{◌≡◌}
-use Rattle.patch_model.proofs.Placing.{at_from}
-use Rattle.patch_model.proofs.place.at_key.Given as goal
-
-abbrev pub invariant-loop-entry : goal.invariant-loop-entry
-invariant-loop-entry l = at_from l.key l.entries l.entry-index ≡ at_from l.key l.entries 0

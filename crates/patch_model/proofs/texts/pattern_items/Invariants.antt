@@ -1,6 +1,0 @@
-use Rattle.patch_model.proofs.Finding.{Past}
-use Rattle.patch_model.proofs.ListedTexts.{patterns_from}
-use Rattle.patch_model.proofs.texts.pattern_items.Given as goal
-
-abbrev pub invariant-loop-item : goal.invariant-loop-item
-invariant-loop-item l = Past (patterns_from l.items 0) (patterns_from l.items l.item-index) l.found
