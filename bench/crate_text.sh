@@ -1,15 +1,19 @@
 #!/usr/bin/env bash
-# Times reading and printing crate texts of growing size, of both versions, beside `cat` of the same bytes.
+# Times `pac exec` on crate texts of growing size, of both versions: with a script without statements, which is reading
+# and typing the text, and with one of 65,536 statements, beside `cat` of the same bytes.
 top="$(cd "$(dirname "$0")/.." && pwd)" || exit 2
-program="$top/crates/frag_echo/out/frag_echo"
-[ -x "$program" ] || { echo "build the program first: cd $top/crates/frag_echo && rt run < stdin" >&2; exit 2; }
+program="$top/crates/pac_main/out/pac_main"
+[ -x "$program" ] || { echo "build the program first: $top/pac list $top/examples/one_register.svd" >&2; exit 2; }
 . "$top/bench/timing.sh"
 needs python3
-input="$folder/crate.rs"
+: >"$folder/none.script"
+for n in $(seq 0 65535); do
+    echo "P0.r$((n % 32))().modify(|_, w| w.f1().bits($((n % 8))));"
+done >"$folder/many.script"
 
-printf '%7s %5s %9s %9s %9s %11s %12s\n' version MB 'read s' 'both s' 'cat s' 'both/cat' 'memory/text'
+printf '%7s %5s %9s %9s %9s %12s\n' version MB 'typed s' 'run s' 'cat s' 'memory/text'
 for version in 1 2; do
-for megabytes in 10 40 80; do
+for megabytes in 1 10 60; do
     python3 - "$version" "$megabytes" "$folder/crate.rs" <<'PYTHON'
 import sys
 version, size, name = int(sys.argv[1]), int(sys.argv[2]) * 1000 * 1000, sys.argv[3]
@@ -58,12 +62,12 @@ with open(name, "w") as out:
     for n in range(count):
         out.write(block(n))
 PYTHON
-    read -r read_time _ < <(best "$program" parse)
-    read -r both_time memory < <(best "$program")
-    cmp -s "$folder/crate.rs" "$folder/out" || { echo "printed otherwise" >&2; exit 1; }
-    read -r cat_time _ < <(best cat)
+    read -r typed_time memory < <(best "$program" exec "$folder/crate.rs" "$folder/none.script")
+    read -r run_time _ < <(best "$program" exec "$folder/crate.rs" "$folder/many.script")
+    [ "$(wc -l <"$folder/out")" -eq 131072 ] || { echo "not all accesses were printed" >&2; exit 1; }
+    read -r cat_time _ < <(best cat "$folder/crate.rs")
     bytes="$(stat -c %s "$folder/crate.rs")"
-    awk -v v="$version" -v m="$megabytes" -v r="$read_time" -v p="$both_time" -v c="$cat_time" -v k="$memory" -v b="$bytes" \
-        'BEGIN { printf "%7d %5d %9.2f %9.2f %9.2f %11s %12.1f\n", v, m, r, p, c, (c > 0 ? sprintf("%.0f", p / c) : "-"), k * 1024 / b }'
+    awk -v v="$version" -v m="$megabytes" -v t="$typed_time" -v r="$run_time" -v c="$cat_time" -v k="$memory" -v b="$bytes" \
+        'BEGIN { printf "%7d %5d %9.2f %9.2f %9.2f %12.1f\n", v, m, t, r, c, k * 1024 / b }'
 done
 done

@@ -1,9 +1,8 @@
 #!/usr/bin/env bash
-# Times `pac list` on files that are made to be hard, and `frag_echo parse` on such crate texts where it is built:
+# Times `pac list` on files that are made to be hard, and `pac exec` on such crate texts:
 # for each the size, the least seconds and the most memory of three runs, the status, and the line that it tells.
 top="$(cd "$(dirname "$0")/.." && pwd)" || exit 2
 program="$top/crates/pac_main/out/pac_main"
-echo_program="$top/crates/frag_echo/out/frag_echo"
 [ -x "$program" ] || { echo "build the program first: $top/pac list $top/examples/one_register.svd" >&2; exit 2; }
 . "$top/bench/timing.sh"
 needs python3
@@ -89,8 +88,7 @@ for kind in 'start tags' 'nested elements' 'a comment' 'white space' 'digits of 
     'five arrays of 65,536'; do
     make "$kind" && timed "$kind" "$program" list "$folder/hostile"
 done
-[ -x "$echo_program" ] || exit 0
-input="$folder/hostile"
+: >"$folder/none.script"
 for kind in 'nested modules' 'nested modules, broken'; do
-    make "$kind" && timed "$kind" "$echo_program" parse
+    make "$kind" && timed "$kind" "$program" exec "$folder/hostile" "$folder/none.script"
 done

@@ -1,6 +1,6 @@
 #!/usr/bin/env bash
 # The checks that need the built program: each description under examples/ that has a listing or a crate text beside
-# it is listed or printed so, real files and outputs that fail are told so, and `./pac` works through a symbolic link. Says nothing where
+# it is listed or printed so, each script there makes its events, real files and outputs that fail are told so, and `./pac` works through a symbolic link. Says nothing where
 # all hold, and ends with 1 where one doesn't.
 top="$(cd "$(dirname "$0")/.." && pwd)" || exit 1
 program="$top/crates/pac_main/out/pac_main"
@@ -38,6 +38,26 @@ for text in "$top"/examples/*.rs; do
     generated=$((generated + 1))
 done
 [ "$generated" -gt 0 ] || fail "no crate text stands under examples/"
+
+# prints EVENTS WHAT WORD..: the words run the script of these events over a memory bus.
+prints() {
+    local events=$1 what=$2
+    shift 2
+    "$program" "$@" --bus memory >"$folder/out" 2>"$folder/err"
+    status=$?
+    [ "$status" -eq 0 ] || fail "$what: status $status"
+    diff "$events" "$folder/out" >&2 || fail "$what: its events differ"
+    [ -s "$folder/err" ] && fail "$what: $(cat "$folder/err")"
+}
+
+ran=0
+for events in "$top"/examples/*.events; do
+    example="$top/examples/$(basename "$events" .events)"
+    prints "$events" "exec of $example.script" exec "$example.rs" "$example.script"
+    prints "$events" "run of $example.script" run "$example.svd" "$example.script"
+    ran=$((ran + 1))
+done
+[ "$ran" -gt 0 ] || fail "no events stand under examples/"
 
 # fails STATUS LINE WHAT: the last run's status and line, and that nothing went to standard output.
 fails() {

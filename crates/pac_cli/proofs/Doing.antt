@@ -1,7 +1,9 @@
 -- From what a stage leaves to what is done for a command.
-use Rattle.std.proofs.Common.{ℕ, ◌≡◌, Option, Some, None, List, true, Result, Ok, Err, IfOk, refl, sym, ap, ◌∙◌, subst, inl, inr}
+use Rattle.std.proofs.Common.{ℕ, ◌≡◌, ◌⊎◌, Option, Some, None, List, [], true, Result, Ok, Err, IfOk, refl, sym, ap, ◌∙◌, subst, inl, inr}
 use Rattle.std.specs.Io.KnownBytes.{Appends}
 use Rattle.std.specs.Result.{result_err}
+use Rattle.frag_tree.specs.declared.event.Event.{Event}
+use Rattle.pac_bus.specs.Telling.{BusTold}
 use Rattle.pac_io.specs.Writing.{AppendsPrefix, FaultCause}
 use Rattle.pac_io.specs.declared.fault.SinkFault.{SinkFault}
 use Rattle.pac_io.specs.declared.fault.SinkFault.TheVariants as sink
@@ -10,14 +12,14 @@ use Rattle.reg_table.specs.Registers.{table_of}
 use Rattle.svd_model.specs.Keys.{Key}
 use Rattle.svd_model.specs.Steps.{Step}
 use Rattle.svd_rows.specs.Rows.{Row}
-use Rattle.pac_fault.specs.Classes.{Class, no_memory, bad_words, bad_read, bad_write, long_file, bad_input, class_of}
+use Rattle.pac_fault.specs.Classes.{Class, no_memory, bad_words, bad_read, bad_write, bad_bus, long_file, bad_input, class_of}
 use Rattle.pac_fault.specs.Layers.{of_writing}
 use Rattle.pac_fault.specs.declared.fault.PacFault.{PacFault}
 use Rattle.pac_fault.specs.declared.fault.PacFault.TheVariants.{Memory}
-use Rattle.pac_cli.specs.Answers.{Plan, output_of, prints, Answer, refused, does, unresolved, AnswersSource, generated, listed}
+use Rattle.pac_cli.specs.Answers.{Plan, prints, Answer, refused, does, unresolved, AnswersSource, generated, listed}
 use Rattle.pac_cli.specs.Resolving.{Unresolved, Resolution, stopped, resolved, SourceBytes, ComeTo}
-use Rattle.pac_cli.specs.Stages.{ResolvesNot, DoesNot}
-use Rattle.pac_cli.specs.Worlds.{Paper}
+use Rattle.pac_cli.specs.Stages.{Does, DoesNot, HasWrittenPart, MakesAll, MakesAny, MakesSome, ResolvesNot}
+use Rattle.pac_cli.specs.Worlds.{Desk, DoesNothing, Paper, alone}
 use Rattle.crate_form.proofs.Forming.{one_has_form}
 use Rattle.crate_form.specs.Forms.{HasForm}
 use Rattle.frag_emit.specs.Standing.{StandsFor}
@@ -32,41 +34,91 @@ use Rattle.pac_inputs.specs.Gathering.{FileMap, Gathered, inputs_are}
 use Rattle.pac_words.specs.Commands.{command_of}
 use Rattle.pac_words.specs.declared.command.Command.{Command}
 
--- memory was wanting before anything was written
-pub lacks_memory : (decides : Answer → Type 0) (now : Paper) (fault : PacFault) → fault ≡ Memory → DoesNot (class_of fault) decides now now fault
+-- nothing is done
+pub nothing_done : (now : Desk) → DoesNothing now now
+nothing_done now = record { same_text = refl; same_faults = refl; same_bus = refl }
+
+-- memory was wanting before anything was done
+pub lacks_memory : (decides : Answer → Type 0) (now : Desk) (fault : PacFault) → fault ≡ Memory → DoesNot (class_of fault) decides now now fault
 lacks_memory decides now fault is =
-    subst (λ (f : PacFault). DoesNot (class_of f) decides now now f) (sym is) (record { told_as = refl; count = refl; output = inl refl })
+    subst (λ (f : PacFault). DoesNot (class_of f) decides now now f) (sym is) (record { told_as = refl; count = refl; output = inl (nothing_done now) })
 
 -- the output broke off behind a first part
-broken_off : (decides : Answer → Type 0) (plan : Plan) (old new : Paper) (error : SinkFault) → decides (does plan) → AppendsPrefix old.written new.written (output_of plan)
-    → FaultCause error old.faults new.faults → DoesNot (class_of (of_writing error)) decides old new (of_writing error)
-broken_off decides plan old new sink.Failed decided part cause = record { rose = cause; output = record { plan = plan; decided = decided; part = part } }
-broken_off decides plan old new sink.Memory decided part cause =
-    record { told_as = refl; count = cause; output = inr (record { plan = plan; decided = decided; part = part }) }
-
-pub not_written : (decides : Answer → Type 0) (plan : Plan) (old new : Paper) (error : SinkFault) (fault : PacFault) → fault ≡ of_writing error → decides (does plan)
-    → AppendsPrefix old.written new.written (output_of plan) → FaultCause error old.faults new.faults → DoesNot (class_of fault) decides old new fault
-not_written decides plan old new error fault is decided part cause =
-    subst (λ (f : PacFault). DoesNot (class_of f) decides old new f) (sym is) (broken_off decides plan old new error decided part cause)
-
--- the files of a description come to no rows
-refused_by : (class : Class) (made : Resolution → Answer) (source : SourceBytes) (now : Paper) (fault : PacFault) → ((why : Unresolved) → made (stopped why) ≡ refused (unresolved why))
-    → ResolvesNot class source fault → DoesNot class (AnswersSource made source) now now fault
-refused_by no_memory made source now fault stops h = record { told_as = h; count = refl; output = inl refl }
-refused_by bad_words made source now fault stops h = absurd h
-refused_by (bad_read name) made source now fault stops h = absurd h
-refused_by bad_write made source now fault stops h = absurd h
-refused_by (long_file name limit) made source now fault stops h = absurd h
-refused_by bad_input made source now fault stops h = record {
-  writes = record { same_text = refl; same_faults = refl };
-  cause = unresolved h.0;
-  decided = record { resolution = stopped h.0; comes = h.1; answered = sym (stops h.0) };
-  shown = h.2;
+broken_off : (decides : Answer → Type 0) (old new : Desk) (error : SinkFault) → HasWrittenPart MakesSome decides old new
+    → FaultCause error old.paper.faults new.paper.faults → DoesNot (class_of (of_writing error)) decides old new (of_writing error)
+broken_off decides old new sink.Failed part cause = record { rose = cause; output = part }
+broken_off decides old new sink.Memory part cause = record {
+  told_as = refl;
+  count = cause;
+  output = inr (record { plan = part.plan; decided = part.decided; events = part.events; makes = inr part.makes; part = part.part });
 }
 
-pub not_resolved : (made : Resolution → Answer) (source : SourceBytes) (now : Paper) (fault : PacFault) → ((why : Unresolved) → made (stopped why) ≡ refused (unresolved why))
+pub not_written : (decides : Answer → Type 0) (old new : Desk) (error : SinkFault) (fault : PacFault) → fault ≡ of_writing error → HasWrittenPart MakesSome decides old new
+    → FaultCause error old.paper.faults new.paper.faults → DoesNot (class_of fault) decides old new fault
+not_written decides old new error fault is part cause =
+    subst (λ (f : PacFault). DoesNot (class_of f) decides old new f) (sym is) (broken_off decides old new error part cause)
+
+-- a text that depends on no bus makes no events
+pub makes_nothing : (text : List ℕ) → MakesAll (prints text) [] None None
+makes_nothing text = record { whole = refl; acted = refl }
+
+-- a first part of a text that depends on no bus
+pub part_of_text : (decides : Answer → Type 0) (text : List ℕ) (old new : Paper) → decides (does (prints text)) → AppendsPrefix old.written new.written text
+    → HasWrittenPart MakesSome decides (alone old) (alone new)
+part_of_text decides text old new decided part = record { plan = prints text; decided = decided; events = []; makes = inl (makes_nothing text); part = part }
+
+-- ---- what decides an answer may be said otherwise
+
+module _ (one other : Answer → Type 0) (goes : (answer : Answer) → one answer → other answer) where
+  part_otherwise : (Makes : Plan → List Event → Option BusTold → Option BusTold → Type 0) (old new : Desk) → HasWrittenPart Makes one old new → HasWrittenPart Makes other old new
+  part_otherwise Makes old new h = record { plan = h.plan; decided = goes (does h.plan) h.decided; events = h.events; makes = h.makes; part = h.part }
+
+  output_otherwise : (old new : Desk) → DoesNothing old new ⊎ HasWrittenPart MakesAny one old new → DoesNothing old new ⊎ HasWrittenPart MakesAny other old new
+  output_otherwise old new (inl nothing) = inl nothing
+  output_otherwise old new (inr part) = inr (part_otherwise MakesAny old new part)
+
+  fault_otherwise : (class : Class) (old new : Desk) (fault : PacFault) → DoesNot class one old new fault → DoesNot class other old new fault
+  fault_otherwise no_memory old new fault h = record { told_as = h.told_as; count = h.count; output = output_otherwise old new h.output }
+  fault_otherwise bad_words old new fault h = absurd h
+  fault_otherwise (bad_read name) old new fault h = absurd h
+  fault_otherwise bad_write old new fault h = record { rose = h.rose; output = part_otherwise MakesSome old new h.output }
+  fault_otherwise (bad_bus done) old new fault h = record {
+    count = h.count;
+    plan = h.plan;
+    decided = goes (does h.plan) h.decided;
+    events = h.events;
+    makes = h.makes;
+    counted = h.counted;
+    whole = h.whole;
+  }
+  fault_otherwise (long_file name limit) old new fault h = absurd h
+  fault_otherwise bad_input old new fault h = record { nothing = h.nothing; cause = h.cause; decided = goes (refused h.cause) h.decided; shown = h.shown }
+
+  pub does_otherwise : {T : Type 0} (old new : Desk) (result : Result T PacFault) → Does one old new result → Does other old new result
+  does_otherwise old new (Ok value) h = record { count = h.count; plan = h.plan; decided = goes (does h.plan) h.decided; events = h.events; makes = h.makes; whole = h.whole }
+  does_otherwise old new (Err fault) h = fault_otherwise (class_of fault) old new fault h
+
+-- ---- commands over a description
+
+-- the files of a description come to no rows
+refused_by : (class : Class) (decides : Answer → Type 0) (source : SourceBytes) (now : Desk) (fault : PacFault) → ((why : Unresolved) → ComeTo source (stopped why) → decides (refused (unresolved why)))
+    → ResolvesNot class source fault → DoesNot class decides now now fault
+refused_by no_memory decides source now fault stops h = record { told_as = h; count = refl; output = inl (nothing_done now) }
+refused_by bad_words decides source now fault stops h = absurd h
+refused_by (bad_read name) decides source now fault stops h = absurd h
+refused_by bad_write decides source now fault stops h = absurd h
+refused_by (bad_bus done) decides source now fault stops h = absurd h
+refused_by (long_file name limit) decides source now fault stops h = absurd h
+refused_by bad_input decides source now fault stops h = record { nothing = nothing_done now; cause = unresolved h.0; decided = stops h.0 h.1; shown = h.2 }
+
+pub stopped_by : (decides : Answer → Type 0) (source : SourceBytes) (now : Desk) (fault : PacFault) → ((why : Unresolved) → ComeTo source (stopped why) → decides (refused (unresolved why)))
+    → ResolvesNot (class_of fault) source fault → DoesNot (class_of fault) decides now now fault
+stopped_by decides source now fault stops h = refused_by (class_of fault) decides source now fault stops h
+
+pub not_resolved : (made : Resolution → Answer) (source : SourceBytes) (now : Desk) (fault : PacFault) → ((why : Unresolved) → made (stopped why) ≡ refused (unresolved why))
     → ResolvesNot (class_of fault) source fault → DoesNot (class_of fault) (AnswersSource made source) now now fault
-not_resolved made source now fault stops h = refused_by (class_of fault) made source now fault stops h
+not_resolved made source now fault stops h =
+    stopped_by (AnswersSource made source) source now fault (λ why comes. record { resolution = stopped why; comes = comes; answered = sym (stops why) }) h
 
 -- a listing
 

@@ -1,11 +1,19 @@
 -- No command with inputs is refused for its words.
 use Rattle.std.proofs.Common.{ℕ, ◌≡◌, List, [], ◌∷◌, Option, Some, None, refl}
-use Rattle.pac_cli.specs.Answers.{Answer, AnswersAsked, Decides, DecidesOn, DecidesSource, IsAnswer, generated, listed, no_command, refused}
+use Rattle.pac_cli.specs.Answers.{Answer, AnswersAsked, AnswersOnCrate, AnswersOnRows, AnswersScript, AnswersWithout, Decides, DecidesOn, DecidesRun, DecidesSource, DecidesText, IsAnswer, Plan, generated, listed, no_command, refused, scripted, table_plan, text_plan, unless_mistyped}
+use Rattle.pac_cli.specs.Buses.{bus_of, missing_kind}
+use Rattle.frag_sem.specs.ScriptTyping.{LineFault, script_fault}
+use Rattle.frag_sem.specs.Surfaces.{Surface}
+use Rattle.frag_sem.specs.TextSurface.{text_surface}
+use Rattle.table_sem.specs.TableSurface.{table_surface}
+use Rattle.frag_tree.specs.declared.script.Script.{Script}
 use Rattle.pac_cli.specs.Resolving.{Resolution, stopped, resolved}
+use Rattle.pac_cli.specs.Scripts.{CrateReading, untyped, typed, ScriptReading, unread, spelled}
 use Rattle.pac_inputs.specs.Gathering.{FileMap, Gathering, inputs_are, is_too_long}
 use Rattle.pac_words.specs.Commands.{command_of}
 use Rattle.pac_words.specs.declared.command.Command.{Command}
-use Rattle.pac_words.specs.declared.command.Command.TheVariants.{Generating, Listing}
+use Rattle.pac_words.specs.declared.command.Command.TheVariants.{Executing, Generating, Listing, Running}
+use Rattle.pac_words.specs.declared.command.BusKind.{BusKind}
 
 not_listed : (resolution : Resolution) → refused no_command ≡ listed resolution → ⊥
 unfolding listed
@@ -22,17 +30,52 @@ not_from made never [] h = h
 not_from made never (svd ∷ []) h = never h.resolution h.answered
 not_from made never (svd ∷ next ∷ inputs) h = h
 
+not_typed : (fault : Option LineFault) (plan : Plan) → refused no_command ≡ unless_mistyped fault plan → ⊥
+not_typed None plan e = cc e
+not_typed (Some fault) plan e = cc e
+
+not_scripted : (surface : Surface) (plan : Script → Plan) (reading : ScriptReading) → refused no_command ≡ scripted surface plan reading → ⊥
+unfolding scripted
+not_scripted surface plan (unread why) e = cc e
+not_scripted surface plan (spelled script) e = not_typed (script_fault surface script) (plan script) e
+
+not_on_crate : (reading : CrateReading) (script : List ℕ) → AnswersOnCrate reading script (refused no_command) → ⊥
+not_on_crate (untyped why) script h = cc h
+not_on_crate (typed krate) script h = not_scripted (text_surface krate) (text_plan krate) h.reading h.answered
+
+not_for_text : (inputs : List (List ℕ)) → DecidesText inputs (refused no_command) → ⊥
+not_for_text [] h = h
+not_for_text (krate ∷ []) h = h
+not_for_text (krate ∷ script ∷ []) h = not_on_crate h.reading script h.answered
+not_for_text (krate ∷ script ∷ next ∷ inputs) h = h
+
+not_on_rows : (resolution : Resolution) (script : List ℕ) → AnswersOnRows resolution script (refused no_command) → ⊥
+not_on_rows (stopped why) script h = cc h
+not_on_rows (resolved rows) script h = not_scripted (table_surface rows) (table_plan rows) h.reading h.answered
+
+not_for_run : (inputs : List (List ℕ)) → DecidesRun inputs (refused no_command) → ⊥
+not_for_run [] h = h
+not_for_run (svd ∷ []) h = h
+not_for_run (svd ∷ script ∷ []) h = not_on_rows h.resolution script h.answered
+not_for_run (svd ∷ script ∷ next ∷ inputs) h = h
+
 not_decided : (command : Command) (inputs : List (List ℕ)) → Decides command inputs (refused no_command) → ⊥
 not_decided (Listing source) inputs h = not_from listed not_listed inputs h
 not_decided (Generating source) inputs h = not_from generated not_generated inputs h
+not_decided (Executing krate run) inputs h = not_for_text inputs h
+not_decided (Running source run) inputs h = not_for_run inputs h
 
 not_on : (command : Command) (gathering : Gathering) → DecidesOn command gathering (refused no_command) → ⊥
 not_on command (inputs_are inputs) h = not_decided command inputs h
 not_on command (is_too_long file) h = cc h
 
-not_asked : (asked : Option Command) (told : Option FileMap) → AnswersAsked asked told (refused no_command) → asked ≡ None
-not_asked None told h = refl
-not_asked (Some command) told h = absurd (not_on command h.gathering h.decided)
+not_without : (missing : Option BusKind) (command : Command) (told : Option FileMap) → AnswersWithout missing command told (refused no_command) → ⊥
+not_without (Some kind) command told h = cc h
+not_without None command told h = not_on command h.gathering h.decided
 
-pub refused_words_lem : (words : List (List ℕ)) (told : Option FileMap) → IsAnswer words told (refused no_command) → command_of words ≡ None
-refused_words_lem words told h = not_asked (command_of words) told h
+not_asked : (asked : Option Command) (kinds : List BusKind) (told : Option FileMap) → AnswersAsked asked kinds told (refused no_command) → asked ≡ None
+not_asked None kinds told h = refl
+not_asked (Some command) kinds told h = absurd (not_without (missing_kind (bus_of command) kinds) command told h)
+
+pub refused_words_lem : (words : List (List ℕ)) (kinds : List BusKind) (told : Option FileMap) → IsAnswer words kinds told (refused no_command) → command_of words ≡ None
+refused_words_lem words kinds told h = not_asked (command_of words) kinds told h

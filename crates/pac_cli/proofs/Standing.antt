@@ -1,21 +1,25 @@
 -- From what each stage of a command leaves to what stands after the call.
-use Rattle.std.proofs.Common.{ℕ, ◌≡◌, ◌⊎◌, List, [], ◌++◌, Option, Some, None, IfSome, Result, Ok, Err, refl, sym, ap, subst, inl, inr}
+use Rattle.std.proofs.Common.{ℕ, ◌≡◌, List, [], ◌++◌, Option, Some, None, IfSome, Result, Ok, Err, refl, sym, ap, ◌∙◌, subst, inl, inr}
 use Rattle.std.proofs.lemmas.List.{append-nil}
 use Rattle.std.specs.Result.{result_err}
 use Rattle.pac_words.specs.Commands.{command_of}
+use Rattle.pac_words.specs.declared.command.BusKind.{BusKind}
 use Rattle.pac_words.specs.declared.command.Command.{Command}
-use Rattle.pac_fault.specs.Classes.{Class, no_memory, bad_words, bad_read, bad_write, long_file, bad_input, class_of}
+use Rattle.pac_fault.specs.Classes.{Class, no_memory, bad_words, bad_read, bad_write, bad_bus, long_file, bad_input, class_of}
 use Rattle.pac_fault.specs.declared.fault.PacFault.{PacFault}
-use Rattle.pac_fault.specs.declared.fault.PacFault.TheVariants.{Memory}
-use Rattle.pac_cli.specs.Answers.{no_command, file_too_long, Answer, refused, does, Decides, DecidesOn, AnswersAsked, IsAnswer}
+use Rattle.pac_fault.specs.declared.fault.PacFault.TheVariants.{Memory, Words}
+use Rattle.pac_fault.specs.declared.fault.WordsFault.TheVariants.{NoBus}
+use Rattle.pac_cli.specs.Answers.{no_bus, no_command, file_too_long, Answer, refused, AnswersAsked, AnswersWithout, Decides, DecidesOn, IsAnswer}
+use Rattle.pac_cli.specs.Buses.{OthersStay, Slot, bus_asked, bus_of, kinds_of, lent_for, missing_kind}
 use Rattle.pac_inputs.specs.Gathering.{FileMap, Gathering, inputs_are, is_too_long, Gathered}
 use Rattle.pac_inputs.specs.Reads.{GathersAll, GathersNot}
 use Rattle.pac_inputs.specs.Shelves.{Shelf, Asks, AsksSome, AsksUpTo}
 use Rattle.pac_inputs.specs.declared.gathering.Wanted.{Wanted}
 use Rattle.pac_cli.specs.Inputs.{files_of, wanted_by}
-use Rattle.pac_cli.specs.Standing.{wanted, WritesPart, StandsIn, Stands}
-use Rattle.pac_cli.specs.Stages.{AsksNot, HasWrittenPart, DoesNot, Does}
-use Rattle.pac_cli.specs.Worlds.{Paper, World, world, WritesNothing}
+use Rattle.pac_cli.specs.Standing.{Answered, ReadsAll, wanted, StandsIn, Stands}
+use Rattle.pac_cli.specs.Stages.{AsksNot, Does, DoesNot, LacksMemoryToDo}
+use Rattle.pac_cli.specs.Worlds.{Desk, Paper, World, desk, desk_of, world}
+use Rattle.pac_cli.proofs.Doing.{does_otherwise, nothing_done}
 
 asks_none : (old : Option (List (List ℕ))) → IfSome old (λ before. old ≡ Some (before ++ []))
 asks_none None = tt
@@ -27,34 +31,28 @@ asks_nothing now = record { same_files = refl; asked_for = asks_none now.asked }
 asks_no_file : (files : List Wanted) (now : Shelf) → AsksSome files now now
 asks_no_file files now = record { before = []; later = files; first = refl; asks = asks_nothing now }
 
-still : (now : Paper) → WritesNothing now now
-still now = record { same_text = refl; same_faults = refl }
-
--- the files of the words are those of their command
-the_files : (words : List (List ℕ)) (command : Command) → command_of words ≡ Some command → files_of command ≡ wanted words
-the_files words command taken = ap wanted_by (sym taken)
-
--- the answer to the words is that of their command
-the_answer : (words : List (List ℕ)) (command : Command) (told : Option FileMap) (answer : Answer) (gathering : Gathering) → command_of words ≡ Some command
-    → Gathered told (files_of command) gathering → DecidesOn command gathering answer → IsAnswer words told answer
-the_answer words command told answer gathering taken gathered decided =
-    subst (λ (asked : Option Command). AnswersAsked asked told answer) (sym taken) (record { gathering = gathering; gathered = gathered; decided = decided })
+-- memory was wanting before anything was done
+lacks_yet : (decides : Answer → Type 0) (now : Desk) (fault : PacFault) → fault ≡ Memory → LacksMemoryToDo decides now now fault
+lacks_yet decides now fault is = record { told_as = is; count = refl; output = inl (nothing_done now) }
 
 -- the words were refused, or memory was wanting for them
 not_asked : (class : Class) (words : List (List ℕ)) (now : World) (fault : PacFault) → AsksNot class words fault → StandsIn class words now now fault
-not_asked no_memory words now fault h = record { told_as = h; asks = asks_no_file (wanted words) now.shelf; reads = refl; writes = refl; output = inl refl }
+not_asked no_memory words now fault h = record { asks = asks_no_file (wanted words) now.shelf; reads = refl; lacks = lacks_yet (Answered words now) (desk_of words now) fault h }
 not_asked bad_words words now fault h = (
   asks_nothing now.shelf,
   record {
     reads = refl;
-    writes = still now.paper;
-    cause = no_command;
-    answered = subst (λ (asked : Option Command). AnswersAsked asked now.shelf.files (refused no_command)) (sym h.0) refl;
-    shown = h.1;
+    refusal = record {
+      nothing = nothing_done (desk_of words now);
+      cause = no_command;
+      decided = subst (λ (asked : Option Command). AnswersAsked asked (kinds_of now.slots) now.shelf.files (refused no_command)) (sym h.0) refl;
+      shown = h.1;
+    };
   },
 )
 not_asked (bad_read name) words now fault h = absurd h
 not_asked bad_write words now fault h = absurd h
+not_asked (bad_bus done) words now fault h = absurd h
 not_asked (long_file name limit) words now fault h = absurd h
 not_asked bad_input words now fault h = absurd h
 
@@ -65,90 +63,116 @@ not_commanded words now fault h = not_asked (class_of fault) words now fault h
 pub no_memory_yet : (words : List (List ℕ)) (now : World) → Stands words now now (Some Memory)
 no_memory_yet words now = not_asked no_memory words now Memory refl
 
--- the files weren't read
-not_read : (class : Class) (words : List (List ℕ)) (command : Command) (old new : Shelf) (paper : Paper) (fault : PacFault) → command_of words ≡ Some command
-    → GathersNot class (files_of command) old new fault → StandsIn class words (world old paper) (world new paper) fault
-not_read no_memory words command old new paper fault taken h = record {
-  told_as = h.told_as;
-  asks = subst (λ (files : List Wanted). AsksSome files old new) (the_files words command taken) h.asks;
-  reads = h.count;
-  writes = refl;
-  output = inl refl;
-}
-not_read bad_words words command old new paper fault taken h = absurd h
-not_read (bad_read name) words command old new paper fault taken h = record {
-  file = h.file;
-  named = h.named;
-  asks = subst (λ (files : List Wanted). AsksUpTo h.file files old new) (the_files words command taken) h.asks;
-  rose = h.rose;
-  writes = still paper;
-}
-not_read bad_write words command old new paper fault taken h = absurd h
-not_read (long_file name limit) words command old new paper fault taken h =
-    let file : Wanted = record { name = name; limit = limit } in (
-      subst (λ (files : List Wanted). AsksUpTo file files old new) (the_files words command taken) h.asks,
-      record {
-        reads = h.count;
-        writes = still paper;
-        cause = file_too_long name limit;
-        answered = the_answer words command old.files (refused (file_too_long name limit)) (is_too_long file) taken h.gathered refl;
-        shown = h.told_as;
-      },
-    )
-not_read bad_input words command old new paper fault taken h = absurd h
+-- the command of the words
+module _ (words : List (List ℕ)) (command : Command) (taken : command_of words ≡ Some command) where
+  the_files : files_of command ≡ wanted words
+  the_files = ap wanted_by (sym taken)
 
-pub not_gathered : (words : List (List ℕ)) (command : Command) (old new : Shelf) (paper : Paper) (fault : PacFault) → command_of words ≡ Some command
-    → GathersNot (class_of fault) (files_of command) old new fault → Stands words (world old paper) (world new paper) (Some fault)
-not_gathered words command old new paper fault taken h = not_read (class_of fault) words command old new paper fault taken h
+  -- what the command has before it is what the words have
+  the_desk : (now : World) → desk now.paper (lent_for (bus_of command) now.slots) ≡ desk_of words now
+  the_desk now = ap (λ (asked : Option Command). desk now.paper (lent_for (bus_asked asked) now.slots)) (sym taken)
 
--- what is done stands for any command whose files were read
-module _ (words : List (List ℕ)) (command : Command) (inputs : List (List ℕ)) (old new : Shelf) (taken : command_of words ≡ Some command) (read : GathersAll (files_of command) inputs old new) where
-  asks_all : Asks old new (wanted words)
-  asks_all = subst (λ (files : List Wanted). Asks old new files) (the_files words command taken) read.asks
-
-  answered : (answer : Answer) → Decides command inputs answer → IsAnswer words old.files answer
-  answered answer decided = the_answer words command old.files answer (inputs_are inputs) taken read.gathered decided
-
-  part_of : (paper later : Paper) → HasWrittenPart (Decides command inputs) paper later → WritesPart words (world old paper) (world new later)
-  part_of paper later h = record { plan = h.plan; answered = answered (does h.plan) h.decided; part = h.part }
-
-  so_far : (paper later : Paper) → (later.written ≡ paper.written) ⊎ HasWrittenPart (Decides command inputs) paper later
-      → (later.written ≡ paper.written) ⊎ WritesPart words (world old paper) (world new later)
-  so_far paper later (inl same) = inl same
-  so_far paper later (inr part) = inr (part_of paper later part)
-
-  not_done : (class : Class) (paper later : Paper) (fault : PacFault) → DoesNot class (Decides command inputs) paper later fault
-      → StandsIn class words (world old paper) (world new later) fault
-  not_done no_memory paper later fault h = record {
-    told_as = h.told_as;
-    asks = record { before = wanted words; later = []; first = append-nil (wanted words); asks = asks_all };
-    reads = read.count;
-    writes = h.count;
-    output = so_far paper later h.output;
-  }
-  not_done bad_words paper later fault h = absurd h
-  not_done (bad_read name) paper later fault h = absurd h
-  not_done bad_write paper later fault h = record { asks = asks_all; reads = read.count; rose = h.rose; output = part_of paper later h.output }
-  not_done (long_file name limit) paper later fault h = absurd h
-  not_done bad_input paper later fault h = (
-    asks_all,
+  -- no bus is lent of the kind that the command wants
+  pub no_bus_lent : (now : World) (fault : PacFault) (kind : BusKind) → missing_kind (bus_of command) (kinds_of now.slots) ≡ Some kind → fault ≡ Words (NoBus kind)
+      → Stands words now now (Some fault)
+  no_bus_lent now fault kind missing is = subst (λ (f : PacFault). Stands words now now (Some f)) (sym is) (
+    asks_nothing now.shelf,
     record {
-      reads = read.count;
-      writes = h.writes;
-      cause = h.cause;
-      answered = answered (refused h.cause) h.decided;
-      shown = h.shown;
+      reads = refl;
+      refusal = record {
+        nothing = nothing_done (desk_of words now);
+        cause = no_bus kind;
+        decided = subst (λ (asked : Option Command). AnswersAsked asked (kinds_of now.slots) now.shelf.files (refused (no_bus kind))) (sym taken)
+            (subst (λ (found : Option BusKind). AnswersWithout found command now.shelf.files (refused (no_bus kind))) (sym missing) refl);
+        shown = refl;
+      };
     },
   )
 
-  pub performed : {T : Type 0} (paper later : Paper) (result : Result T PacFault) → Does (Decides command inputs) paper later result
-      → Stands words (world old paper) (world new later) (result_err result)
-  performed paper later (Ok value) h = record {
-    asks = asks_all;
-    reads = read.count;
-    writes = h.count;
-    plan = h.plan;
-    answered = answered (does h.plan) h.decided;
-    whole = h.whole;
-  }
-  performed paper later (Err fault) h = not_done (class_of fault) paper later fault h
+  -- the other lent buses are those of the command
+  pub others_of : (old new : List Slot) → OthersStay (bus_of command) old new → OthersStay (bus_asked (command_of words)) old new
+  others_of old new h = subst (λ (asked : Option Command). OthersStay (bus_asked asked) old new) (sym taken) h
+
+  module _ (slots : List Slot) (lent : missing_kind (bus_of command) (kinds_of slots) ≡ None) where
+    -- the answer to the words is that of their command
+    the_answer : (told : Option FileMap) (answer : Answer) (gathering : Gathering) → Gathered told (files_of command) gathering → DecidesOn command gathering answer
+        → IsAnswer words (kinds_of slots) told answer
+    the_answer told answer gathering gathered decided =
+        subst (λ (asked : Option Command). AnswersAsked asked (kinds_of slots) told answer) (sym taken)
+        (subst (λ (found : Option BusKind). AnswersWithout found command told answer) (sym lent) (record { gathering = gathering; gathered = gathered; decided = decided }))
+
+    -- the files weren't read
+    not_read : (class : Class) (old new : Shelf) (paper : Paper) (fault : PacFault) → GathersNot class (files_of command) old new fault
+        → StandsIn class words (world old paper slots) (world new paper slots) fault
+    not_read no_memory old new paper fault h = record {
+      asks = subst (λ (files : List Wanted). AsksSome files old new) the_files h.asks;
+      reads = h.count;
+      lacks = lacks_yet (Answered words (world old paper slots)) (desk_of words (world old paper slots)) fault h.told_as;
+    }
+    not_read bad_words old new paper fault h = absurd h
+    not_read (bad_read name) old new paper fault h = record {
+      file = h.file;
+      named = h.named;
+      asks = subst (λ (files : List Wanted). AsksUpTo h.file files old new) the_files h.asks;
+      rose = h.rose;
+      nothing = nothing_done (desk_of words (world old paper slots));
+    }
+    not_read bad_write old new paper fault h = absurd h
+    not_read (bad_bus done) old new paper fault h = absurd h
+    not_read (long_file name limit) old new paper fault h =
+        let file : Wanted = record { name = name; limit = limit } in (
+          subst (λ (files : List Wanted). AsksUpTo file files old new) the_files h.asks,
+          record {
+            reads = h.count;
+            refusal = record {
+              nothing = nothing_done (desk_of words (world old paper slots));
+              cause = file_too_long name limit;
+              decided = the_answer old.files (refused (file_too_long name limit)) (is_too_long file) h.gathered refl;
+              shown = h.told_as;
+            };
+          },
+        )
+    not_read bad_input old new paper fault h = absurd h
+
+    pub not_gathered : (old new : Shelf) (paper : Paper) (fault : PacFault) → GathersNot (class_of fault) (files_of command) old new fault
+        → Stands words (world old paper slots) (world new paper slots) (Some fault)
+    not_gathered old new paper fault h = not_read (class_of fault) old new paper fault h
+
+    -- what is done stands for any command whose files were read
+    module _ (inputs : List (List ℕ)) (old new : Shelf) (read : GathersAll (files_of command) inputs old new) where
+      asks_all : Asks old new (wanted words)
+      asks_all = subst (λ (files : List Wanted). Asks old new files) the_files read.asks
+
+      reads_all : (paper later : Paper) (after : List Slot) → ReadsAll words (world old paper slots) (world new later after)
+      reads_all paper later after = record { asks = asks_all; reads = read.count }
+
+      not_done : (class : Class) (paper later : Paper) (after : List Slot) (fault : PacFault)
+          → DoesNot class (Answered words (world old paper slots)) (desk_of words (world old paper slots)) (desk_of words (world new later after)) fault
+          → StandsIn class words (world old paper slots) (world new later after) fault
+      not_done no_memory paper later after fault h = record {
+        asks = record { before = wanted words; later = []; first = append-nil (wanted words); asks = asks_all };
+        reads = read.count;
+        lacks = h;
+      }
+      not_done bad_words paper later after fault h = absurd h
+      not_done (bad_read name) paper later after fault h = absurd h
+      not_done bad_write paper later after fault h = (reads_all paper later after, h)
+      not_done (bad_bus done) paper later after fault h = (reads_all paper later after, h)
+      not_done (long_file name limit) paper later after fault h = absurd h
+      not_done bad_input paper later after fault h = (asks_all, record { reads = read.count; refusal = h })
+
+      stands_done : {T : Type 0} (paper later : Paper) (after : List Slot) (result : Result T PacFault)
+          → Does (Answered words (world old paper slots)) (desk_of words (world old paper slots)) (desk_of words (world new later after)) result
+          → Stands words (world old paper slots) (world new later after) (result_err result)
+      stands_done paper later after (Ok value) h = record { read = reads_all paper later after; done = h }
+      stands_done paper later after (Err fault) h = not_done (class_of fault) paper later after fault h
+
+      pub performed : {T : Type 0} (paper later : Paper) (after : List Slot) (result : Result T PacFault)
+          → Does (Decides command inputs) (desk paper (lent_for (bus_of command) slots)) (desk later (lent_for (bus_of command) after)) result
+          → Stands words (world old paper slots) (world new later after) (result_err result)
+      performed paper later after result h =
+          stands_done paper later after result
+          (does_otherwise (Decides command inputs) (Answered words (world old paper slots)) (λ answer decided. the_answer old.files answer (inputs_are inputs) read.gathered decided)
+          (desk_of words (world old paper slots)) (desk_of words (world new later after)) result
+          (subst (λ (d : Desk). Does (Decides command inputs) d (desk_of words (world new later after)) result) (the_desk (world old paper slots))
+          (subst (λ (d : Desk). Does (Decides command inputs) (desk paper (lent_for (bus_of command) slots)) d result) (the_desk (world new later after)) h)))

@@ -10,7 +10,7 @@ use Rattle.pac_cli.specs.Inputs.{files_of}
 use Rattle.pac_cli.specs.Resolving.{ComeTo, SourceBytes, resolved}
 use Rattle.pac_inputs.specs.Gathering.{FileMap, Gathered, inputs_are}
 use Rattle.pac_words.specs.declared.command.Command.{Command}
-use Rattle.pac_words.specs.declared.command.Command.TheVariants.{Generating, Listing}
+use Rattle.pac_words.specs.declared.command.Command.TheVariants.{Executing, Generating, Listing, Running}
 use Rattle.svd_model.specs.Keys.{Key}
 use Rattle.svd_model.specs.Steps.{Step}
 use Rattle.svd_rows.specs.Rows.{Row}
@@ -36,6 +36,8 @@ pub record WritesTextFor (source : SourceBytes) (old new : Option (List ℕ)) : 
 -- the same of a command that prints a crate text, with these inputs; of another command nothing is said
 abbrev pub WritesText : Command → List (List ℕ) → Option (List ℕ) → Option (List ℕ) → Type 0
 WritesText (Listing source) inputs old new = ⊤
+WritesText (Executing krate run) inputs old new = ⊤
+WritesText (Running source run) inputs old new = ⊤
 WritesText (Generating source) [] old new = ⊤
 WritesText (Generating source) (svd ∷ inputs) old new = WritesTextFor (record { svd = svd }) old new
 

@@ -1,9 +1,11 @@
 pub mod Resolving
+pub mod Scripts
+pub mod Buses
 pub mod Inputs
 pub mod Answers
 pub mod Headline
 pub mod Showing
 pub mod Worlds
-pub mod Standing
 pub mod Stages
+pub mod Standing
 pub mod Telling

@@ -2,7 +2,7 @@ ghost use Rattle.std.specs.Prelude.{◌≤◌, length, IfOk};
 ghost use Rattle.pac_cli.specs.Answers.{AnswersSource, generated};
 ghost use Rattle.pac_cli.specs.Headline.{WritesTextFor};
 ghost use Rattle.pac_cli.specs.Stages.{Does};
-ghost use Rattle.pac_cli.specs.Worlds.{paper};
+ghost use Rattle.pac_cli.specs.Worlds.{alone, paper};
 
 use crate::resolving::resolve;
 use frag_emit::print_text;
@@ -14,8 +14,8 @@ use std::alloc::Global;
 pub(crate) fn generate<S: Sink>(alloc: Global, svd: &[u8], out: &mut S) -> Result<(), PacFault>
     requires { length svd.now ≤ 67_108_864 }
     ensures does { Does (AnswersSource generated (record { svd = svd.now }))
-        (paper (S.written out.old) (S.faults out.old))
-        (paper (S.written out.new) (S.faults out.new))
+        (alone (paper (S.written out.old) (S.faults out.old)))
+        (alone (paper (S.written out.new) (S.faults out.new)))
         result }
     ensures headline { IfOk result (λ _. WritesTextFor (record { svd = svd.now }) (S.written out.old) (S.written out.new)) }
 {

@@ -2,11 +2,12 @@ ghost use Rattle.std.specs.Prelude.{ℕ, List, Option, None, Some, ◌≡◌};
 ghost use Rattle.pac_cli.specs.Answers.{Answer, Decides, IsAnswer, no_command, refused};
 ghost use Rattle.pac_inputs.specs.Gathering.{FileMap};
 ghost use Rattle.pac_words.specs.Commands.{command_of};
+ghost use Rattle.pac_words.specs.declared.command.BusKind.{BusKind};
 ghost use Rattle.pac_words.specs.declared.command.Command.{Command};
 
-/// The words and the files decide at most one answer.
+/// The words, the kinds of the lent buses and the files decide at most one answer.
 pub fn one_answer()
-    ensures { (words : List (List ℕ)) (files : FileMap) (one other : Answer) → IsAnswer words (Some files) one → IsAnswer words (Some files) other → one ≡ other }
+    ensures { (words : List (List ℕ)) (kinds : List BusKind) (files : FileMap) (one other : Answer) → IsAnswer words kinds (Some files) one → IsAnswer words kinds (Some files) other → one ≡ other }
 {}
 
 /// A command and its inputs decide at most one answer.
@@ -16,5 +17,5 @@ pub fn one_decision()
 
 /// Only words that ask for no command are refused as such.
 pub fn refused_words()
-    ensures { (words : List (List ℕ)) (told : Option FileMap) → IsAnswer words told (refused no_command) → command_of words ≡ None }
+    ensures { (words : List (List ℕ)) (kinds : List BusKind) (told : Option FileMap) → IsAnswer words kinds told (refused no_command) → command_of words ≡ None }
 {}

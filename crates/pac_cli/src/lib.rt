@@ -2,6 +2,7 @@
 // one line that tells of a fault.
 #![tactic(auto)]
 
+mod executing;
 mod generating;
 mod inputs;
 mod laws;
@@ -10,8 +11,13 @@ mod outcome;
 mod performing;
 mod resolving;
 mod run;
+mod running;
+mod script;
+mod slot;
 mod telling;
 
 pub use laws::{one_answer, one_decision, refused_words};
 pub use outcome::{Outcome, Told};
+pub use pac_words::BusKind;
 pub use run::run_pac;
+pub use slot::BusSlot;

@@ -1,7 +1,7 @@
 ghost use Rattle.std.specs.Prelude.{◌≤◌, length};
 ghost use Rattle.pac_cli.specs.Answers.{AnswersSource, listed};
 ghost use Rattle.pac_cli.specs.Stages.{Does};
-ghost use Rattle.pac_cli.specs.Worlds.{paper};
+ghost use Rattle.pac_cli.specs.Worlds.{alone, paper};
 
 use crate::resolving::resolve;
 use pac_fault::PacFault;
@@ -13,8 +13,8 @@ use std::alloc::Global;
 pub(crate) fn list<S: Sink>(alloc: Global, svd: &[u8], out: &mut S) -> Result<(), PacFault>
     requires { length svd.now ≤ 67_108_864 }
     ensures { Does (AnswersSource listed (record { svd = svd.now }))
-        (paper (S.written out.old) (S.faults out.old))
-        (paper (S.written out.new) (S.faults out.new))
+        (alone (paper (S.written out.old) (S.faults out.old)))
+        (alone (paper (S.written out.new) (S.faults out.new)))
         result }
 {
     let state = resolve(alloc, svd)?;

@@ -1,36 +1,57 @@
-ghost use Rattle.std.specs.Prelude.{IfOk};
+ghost use Rattle.std.specs.Prelude.{◌≡◌, IfOk, None};
 ghost use Rattle.pac_cli.specs.Answers.{Decides};
+ghost use Rattle.pac_cli.specs.Buses.{OthersStay, bus_of, kinds_of, lent_for, missing_kind, slots_of};
 ghost use Rattle.pac_cli.specs.Headline.{WritesText};
 ghost use Rattle.pac_inputs.specs.Gathering.{FitLimits};
 ghost use Rattle.pac_cli.specs.Inputs.{files_of};
 ghost use Rattle.pac_cli.specs.Stages.{Does};
-ghost use Rattle.pac_cli.specs.Worlds.{paper};
+ghost use Rattle.pac_cli.specs.Worlds.{desk, paper};
 
+use crate::executing::execute;
 use crate::generating::generate;
 use crate::listing::list;
+use crate::running::run_against;
+use crate::slot::{BusSlot, place_of};
+use pac_bus::Bus;
 use pac_fault::PacFault;
 use pac_io::{Bytes, Sink};
 use pac_words::Command;
 use std::alloc::Global;
 
-/// Does what a command asks for, with the bytes of its files.
-pub(crate) fn perform<S: Sink>(
+/// Does what a command asks for, with the bytes of its files and the lent buses. The one that it runs its
+/// script over has to be among them.
+pub(crate) fn perform<S: Sink, B: Bus>(
     alloc: Global,
     command: &Command,
     inputs: &[Bytes],
     out: &mut S,
+    buses: &mut Vec<BusSlot<B>>,
 ) -> Result<(), PacFault>
-    requires { FitLimits (files_of command.now) inputs.now }
+    requires limits { FitLimits (files_of command.now) inputs.now }
+    requires lent { missing_kind (bus_of command.now) (kinds_of (slots_of B.told buses.old.items)) ≡ None }
     ensures does { Does (Decides command.now inputs.now)
-        (paper (S.written out.old) (S.faults out.old))
-        (paper (S.written out.new) (S.faults out.new))
+        (desk (paper (S.written out.old) (S.faults out.old)) (lent_for (bus_of command.now) (slots_of B.told buses.old.items)))
+        (desk (paper (S.written out.new) (S.faults out.new)) (lent_for (bus_of command.now) (slots_of B.told buses.new.items)))
         result }
+    ensures others { OthersStay (bus_of command.now) (slots_of B.told buses.old.items) (slots_of B.told buses.new.items) }
     ensures headline { IfOk result (λ _. WritesText command.now inputs.now (S.written out.old) (S.written out.new)) }
 {
     match (command, inputs) {
         (Command::Listing { .. }, [svd]) => list(alloc, svd.as_slice(), out),
         (Command::Generating { .. }, [svd]) => generate(alloc, svd.as_slice(), out),
+        (Command::Executing { run, .. }, [krate, script]) => {
+            let place = place_of(buses.as_slice(), run.bus);
+            let bus = &mut buses[place].bus;
+            execute(alloc, krate.as_slice(), script.as_slice(), bus, out)
+        }
+        (Command::Running { run, .. }, [svd, script]) => {
+            let place = place_of(buses.as_slice(), run.bus);
+            let bus = &mut buses[place].bus;
+            run_against(alloc, svd.as_slice(), script.as_slice(), bus, out)
+        }
         (Command::Listing { .. }, _) => unreachable!(),
         (Command::Generating { .. }, _) => unreachable!(),
+        (Command::Executing { .. }, _) => unreachable!(),
+        (Command::Running { .. }, _) => unreachable!(),
     }
 }

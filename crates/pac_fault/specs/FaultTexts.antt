@@ -5,8 +5,12 @@ use Rattle.pac_base.specs.declared.path.Step.{Step}
 use Rattle.pac_base.specs.declared.span.Span.{Span}
 use Rattle.dim_expand.specs.declared.fault.DimFault.{DimFault}
 use Rattle.dim_expand.specs.declared.fault.DimFault.TheVariants as dim
+use Rattle.frag_script.specs.declared.fault.ScriptFault.{ScriptFault}
+use Rattle.frag_types.specs.declared.fault.CrateFault.{CrateFault}
 use Rattle.overlap_check.specs.declared.fault.CheckFault.{CheckFault}
 use Rattle.overlap_check.specs.declared.fault.CheckFault.TheVariants as check
+use Rattle.pac_words.specs.declared.command.BusKind.{BusKind}
+use Rattle.pac_words.specs.declared.command.BusKind.TheVariants as bus
 use Rattle.svd_keys.specs.declared.fault.BadKind.{BadKind}
 use Rattle.svd_keys.specs.declared.fault.BadKind.TheVariants as bad
 use Rattle.svd_model.specs.declared.counted.Counted.{Counted}
@@ -14,15 +18,22 @@ use Rattle.svd_model.specs.declared.counted.Counted.TheVariants as counted
 use Rattle.svd_reader.specs.declared.fault.SvdFault.{SvdFault}
 use Rattle.svd_reader.specs.declared.fault.SvdFault.TheVariants as svd
 use Rattle.svd_values.specs.AccessorNames.{without_array_mark}
+use Rattle.pac_fault.specs.FragmentTexts.{crate_text, script_text, statements_text}
 use Rattle.pac_fault.specs.declared.fault.PacFault.{PacFault}
-use Rattle.pac_fault.specs.declared.fault.PacFault.TheVariants.{Memory, Words, Read, Write, Svd, Unbuilt, Dim, Check, Limit}
+use Rattle.pac_fault.specs.declared.fault.PacFault.TheVariants.{Memory, Words, Read, Write, Bus, Svd, Unbuilt, Dim, Check, CrateText, Script, Limit}
 use Rattle.pac_fault.specs.declared.fault.WordsFault.{WordsFault}
-use Rattle.pac_fault.specs.declared.fault.WordsFault.TheVariants.{Clap}
+use Rattle.pac_fault.specs.declared.fault.WordsFault.TheVariants.{Clap, NoBus}
 use Rattle.pac_fault.specs.declared.fault.LimitFault.{LimitFault}
-use Rattle.pac_fault.specs.declared.fault.LimitFault.TheVariants.{FileTooLong, TooMany}
+use Rattle.pac_fault.specs.declared.fault.LimitFault.TheVariants.{FileTooLong, ScriptTooLong, TooMany}
+
+unfoldable pub kind_text : BusKind → List ℕ
+kind_text bus.Zero = codes "zero"
+kind_text bus.Memory = codes "memory"
+kind_text bus.Device = codes "device"
 
 unfoldable pub words_text : WordsFault → List ℕ
 words_text Clap = codes "usage: pac list SVD, generate SVD, exec CRATE SCRIPT, run SVD SCRIPT or sample NUMBER COUNT, with --patch P, --strict, --bus zero or memory"
+words_text (NoBus kind) = codes "no bus of kind " ++ kind_text kind
 
 -- ---- paths
 
@@ -114,16 +125,20 @@ dim_text dim.Memory = codes "out of memory"
 unfoldable pub limit_text : LimitFault → List ℕ
 limit_text (FileTooLong name limit) = name ++ (codes " is longer than " ++ (decimal limit ++ codes " bytes"))
 limit_text (TooMany kind count) = many_text kind count
+limit_text (ScriptTooLong count) = statements_text count
 
 unfoldable pub text_of : PacFault → List ℕ
 text_of Memory = codes "out of memory"
 text_of (Words fault) = words_text fault
 text_of (Read name) = codes "cannot read " ++ name
 text_of Write = codes "cannot write"
+text_of (Bus done) = codes "the bus failed after " ++ (decimal done ++ codes " events")
 text_of (Svd fault) = svd_text fault
 text_of (Unbuilt path) = at_path path (codes ": not built yet")
 text_of (Dim fault) = dim_text fault
 text_of (Check fault) = check_text fault
+text_of (CrateText fault) = crate_text fault
+text_of (Script fault) = script_text fault
 text_of (Limit fault) = limit_text fault
 
 -- the line: `pac: `, the text, and a line feed

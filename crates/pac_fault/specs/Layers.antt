@@ -2,6 +2,12 @@
 -- that passes its limit is one too.
 use Rattle.dim_expand.specs.declared.fault.DimFault.{DimFault}
 use Rattle.dim_expand.specs.declared.fault.DimFault.TheVariants as dim
+use Rattle.frag_parse.specs.declared.fault.ParseFault.{ParseFault}
+use Rattle.frag_parse.specs.declared.fault.ParseFault.TheVariants as parse
+use Rattle.frag_script.specs.declared.fault.ScriptFault.{ScriptFault}
+use Rattle.frag_script.specs.declared.fault.ScriptFault.TheVariants as script
+use Rattle.frag_types.specs.declared.fault.CrateFault.{CrateFault}
+use Rattle.frag_types.specs.declared.fault.CrateFault.TheVariants as krate
 use Rattle.overlap_check.specs.declared.fault.CheckFault.{CheckFault}
 use Rattle.overlap_check.specs.declared.fault.CheckFault.TheVariants as check
 use Rattle.pac_io.specs.declared.fault.SinkFault.{SinkFault}
@@ -11,8 +17,8 @@ use Rattle.svd_model.specs.declared.passages.UnbuiltFault.TheVariants as unbuilt
 use Rattle.svd_reader.specs.declared.fault.SvdFault.{SvdFault}
 use Rattle.svd_reader.specs.declared.fault.SvdFault.TheVariants as svd
 use Rattle.pac_fault.specs.declared.fault.PacFault.{PacFault}
-use Rattle.pac_fault.specs.declared.fault.PacFault.TheVariants.{Memory, Write, Svd, Unbuilt, Dim, Check, Limit}
-use Rattle.pac_fault.specs.declared.fault.LimitFault.TheVariants.{TooMany}
+use Rattle.pac_fault.specs.declared.fault.PacFault.TheVariants.{Memory, Write, Svd, Unbuilt, Dim, Check, CrateText, Script, Limit}
+use Rattle.pac_fault.specs.declared.fault.LimitFault.TheVariants.{ScriptTooLong, TooMany}
 
 abbrev pub of_reading : SvdFault → PacFault
 of_reading svd.Memory = Memory
@@ -35,3 +41,18 @@ of_checking fault = Check fault
 abbrev pub of_writing : SinkFault → PacFault
 of_writing sink.Memory = Memory
 of_writing sink.Failed = Write
+
+abbrev pub of_parsing : ParseFault → PacFault
+of_parsing (parse.Syntax at) = CrateText (krate.Syntax at)
+of_parsing (parse.TooDeep at) = CrateText (krate.TooDeep at)
+of_parsing parse.Memory = Memory
+
+abbrev pub of_typing : CrateFault → PacFault
+of_typing krate.Memory = Memory
+of_typing fault = CrateText fault
+
+-- a script that isn't read, or doesn't type
+abbrev pub of_script : ScriptFault → PacFault
+of_script (script.TooLong count) = Limit (ScriptTooLong count)
+of_script script.Memory = Memory
+of_script fault = Script fault

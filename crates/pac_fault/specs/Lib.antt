@@ -1,3 +1,4 @@
+pub mod FragmentTexts
 pub mod FaultTexts
 pub mod Layers
 pub mod Statuses

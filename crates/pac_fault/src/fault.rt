@@ -1,6 +1,8 @@
 use dim_expand::DimFault;
+use frag_types::{CrateFault, ScriptFault};
 use overlap_check::CheckFault;
 use pac_base::{Path, Text};
+use pac_words::BusKind;
 use svd_model::Counted;
 use svd_reader::SvdFault;
 use thiserror::Error;
@@ -23,6 +25,12 @@ pub enum PacFault {
     /// Writing the output failed. Status 4.
     #[error("cannot write")]
     Write,
+    /// The bus failed in a run. Status 5.
+    #[error("the bus failed after {done} events")]
+    Bus {
+        /// How many events were made before.
+        done: u64,
+    },
     /// The description is refused. Status 6.
     #[error("{0}")]
     Svd(SvdFault),
@@ -38,6 +46,12 @@ pub enum PacFault {
     /// The description as a whole is refused. Status 8.
     #[error("{0}")]
     Check(CheckFault),
+    /// The crate text is refused. Status 9.
+    #[error("{0}")]
+    CrateText(CrateFault),
+    /// The script is refused. Status 10.
+    #[error("{0}")]
+    Script(ScriptFault),
     /// The input passes a limit. Status 11.
     #[error("{0}")]
     Limit(LimitFault),
@@ -49,6 +63,12 @@ pub enum WordsFault {
     /// They aren't those of a command.
     #[error("the words are those of no command")]
     Clap,
+    /// The bus that they choose isn't lent.
+    #[error("a bus is not there")]
+    NoBus {
+        /// The kind of the bus.
+        kind: BusKind,
+    },
 }
 
 /// Which limit the input passes.
@@ -67,6 +87,12 @@ pub enum LimitFault {
     TooMany {
         /// What is counted.
         kind: Counted,
+        /// How many there are.
+        count: u64,
+    },
+    /// A script has too many statements.
+    #[error("{count} statements")]
+    ScriptTooLong {
         /// How many there are.
         count: u64,
     },

@@ -1,13 +1,15 @@
 ghost use Rattle.std.specs.Prelude.{◌≡◌, ◌++◌, IfOk, OnOk, codes, decimal};
 ghost use Rattle.std.specs.List.{flat_map};
 ghost use Rattle.svd_values.specs.AccessorNames.{without_array_mark};
-ghost use Rattle.pac_fault.specs.FaultTexts.{at_path, bad_text, both_paths, check_text, counted_text, dim_text, fault_line, index_text, limit_text, many_text, path_text, shown_name, span_text, step_behind, step_text, svd_text, text_of, words_text};
+ghost use Rattle.pac_fault.specs.FaultTexts.{at_path, bad_text, both_paths, check_text, counted_text, dim_text, fault_line, index_text, kind_text, limit_text, many_text, path_text, shown_name, span_text, step_behind, step_text, svd_text, text_of, words_text};
 
 use crate::fault::{LimitFault, PacFault, WordsFault};
+use crate::fragment_text::{push_crate, push_script, push_statements};
 use dim_expand::DimFault;
 use overlap_check::CheckFault;
 use pac_base::{NoMemory, Span, Step};
 use pac_io::Page;
+use pac_words::BusKind;
 use std::alloc::Global;
 use svd_keys::BadKind;
 use svd_model::Counted;
@@ -34,10 +36,13 @@ fn push_text(page: &mut Page, fault: &PacFault) -> Result<(), NoMemory>
         PacFault::Words(fault) => push_words(page, fault),
         PacFault::Read { name } => push_pair(page, b"cannot read ", name.as_str().as_bytes()),
         PacFault::Write => page.push(b"cannot write"),
+        PacFault::Bus { done } => push_between(page, b"the bus failed after ", *done, b" events"),
         PacFault::Svd(fault) => push_svd(page, fault),
         PacFault::Unbuilt { path } => push_at(page, path.as_slice(), b": not built yet"),
         PacFault::Dim(fault) => push_dim(page, fault),
         PacFault::Check(fault) => push_check(page, fault),
+        PacFault::CrateText(fault) => push_crate(page, fault),
+        PacFault::Script(fault) => push_script(page, fault),
         PacFault::Limit(fault) => push_limit(page, fault),
     }
 }
@@ -49,6 +54,26 @@ fn push_pair(page: &mut Page, first: &[u8], second: &[u8]) -> Result<(), NoMemor
     page.push(second)
 }
 
+/// Appends a number between two texts.
+fn push_between(page: &mut Page, first: &[u8], number: u64, second: &[u8]) -> Result<(), NoMemory>
+    ensures { OnOk result (page.new ≡ page.old ++ (first.now ++ (decimal number ++ second.now))) }
+{
+    page.push(first)?;
+    page.decimal(number)?;
+    page.push(second)
+}
+
+#[tactic(auto, unfolding(crate::specs::FaultTexts::kind_text))]
+fn kind_text(kind: BusKind) -> &'static [u8]
+    ensures { result.now ≡ kind_text kind }
+{
+    match kind {
+        BusKind::Zero => b"zero",
+        BusKind::Memory => b"memory",
+        BusKind::Device => b"device",
+    }
+}
+
 #[tactic(auto, unfolding(crate::specs::FaultTexts::words_text))]
 fn push_words(page: &mut Page, fault: &WordsFault) -> Result<(), NoMemory>
     ensures { OnOk result (page.new ≡ page.old ++ words_text fault.now) }
@@ -57,6 +82,7 @@ fn push_words(page: &mut Page, fault: &WordsFault) -> Result<(), NoMemory>
         WordsFault::Clap => page.push(
             b"usage: pac list SVD, generate SVD, exec CRATE SCRIPT, run SVD SCRIPT or sample NUMBER COUNT, with --patch P, --strict, --bus zero or memory",
         ),
+        WordsFault::NoBus { kind } => push_pair(page, b"no bus of kind ", kind_text(*kind)),
     }
 }
 
@@ -342,5 +368,6 @@ fn push_limit(page: &mut Page, fault: &LimitFault) -> Result<(), NoMemory>
             page.push(b" bytes")
         }
         LimitFault::TooMany { kind, count } => push_many(page, *kind, *count),
+        LimitFault::ScriptTooLong { count } => push_statements(page, *count),
     }
 }

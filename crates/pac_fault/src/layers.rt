@@ -1,9 +1,11 @@
 ghost use Rattle.std.specs.Prelude.{◌≡◌};
-ghost use Rattle.pac_fault.specs.Layers.{of_checking, of_passage, of_reading, of_unfolding, of_writing};
+ghost use Rattle.pac_fault.specs.Layers.{of_checking, of_parsing, of_passage, of_reading, of_script, of_typing, of_unfolding, of_writing};
 ghost use Rattle.pac_fault.specs.declared.fault.PacFault.TheVariants.{Memory};
 
 use crate::fault::{LimitFault, PacFault};
 use dim_expand::DimFault;
+use frag_parse::ParseFault;
+use frag_types::{CrateFault, ScriptFault};
 use overlap_check::CheckFault;
 use pac_base::{Back, NoMemory};
 use pac_io::SinkFault;
@@ -99,5 +101,56 @@ impl<S: Drop> From<Back<S, CheckFault>> for PacFault {
             CheckFault::Memory => PacFault::Memory,
             fault => PacFault::Check(fault),
         }
+    }
+}
+
+impl From<ParseFault> for PacFault {
+    ghost from_gives = { λ error fault. fault ≡ of_parsing error };
+
+    fn from(error: ParseFault) -> PacFault {
+        match error {
+            ParseFault::Syntax { at } => PacFault::CrateText(CrateFault::Syntax { at }),
+            ParseFault::TooDeep { at } => PacFault::CrateText(CrateFault::TooDeep { at }),
+            ParseFault::Memory => PacFault::Memory,
+        }
+    }
+}
+
+impl<S: Drop> From<Back<S, CrateFault>> for PacFault {
+    ghost from_gives = { λ error fault. fault ≡ of_typing error.fault };
+
+    fn from(error: Back<S, CrateFault>) -> PacFault {
+        match error.fault {
+            CrateFault::Memory => PacFault::Memory,
+            fault => PacFault::CrateText(fault),
+        }
+    }
+}
+
+impl From<ScriptFault> for PacFault {
+    ghost from_gives = { λ error fault. fault ≡ of_script error };
+
+    fn from(error: ScriptFault) -> PacFault {
+        match error {
+            ScriptFault::TooLong { count } => PacFault::Limit(LimitFault::ScriptTooLong { count }),
+            ScriptFault::Memory => PacFault::Memory,
+            fault => PacFault::Script(fault),
+        }
+    }
+}
+
+impl<S: Drop> From<Back<S, ScriptFault>> for PacFault {
+    ghost from_gives = { λ error fault. fault ≡ of_script error.fault };
+
+    fn from(error: Back<S, ScriptFault>) -> PacFault {
+        PacFault::from(error.fault)
+    }
+}
+
+impl<S: Drop> From<Back<S, NoMemory>> for PacFault {
+    ghost from_gives = { λ _ fault. fault ≡ Memory };
+
+    fn from(_error: Back<S, NoMemory>) -> PacFault {
+        PacFault::Memory
     }
 }

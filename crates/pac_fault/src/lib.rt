@@ -4,6 +4,7 @@
 
 mod fault;
 mod fault_text;
+mod fragment_text;
 mod layers;
 mod status;
 

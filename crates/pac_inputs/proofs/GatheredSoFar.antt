@@ -8,7 +8,7 @@ use Rattle.pac_fault.specs.declared.fault.PacFault.{PacFault}
 use Rattle.pac_fault.specs.declared.fault.PacFault.TheVariants.{Memory, Limit}
 use Rattle.pac_fault.specs.declared.fault.LimitFault.TheVariants.{FileTooLong}
 use Rattle.pac_inputs.specs.Gathering.{FileMap, Gathering, inputs_are, is_too_long, and_then, by_file, gathered_from, FitLimits}
-use Rattle.pac_fault.specs.Classes.{Class, no_memory, bad_words, bad_read, bad_write, long_file, bad_input, class_of}
+use Rattle.pac_fault.specs.Classes.{Class, no_memory, bad_words, bad_read, bad_write, bad_bus, long_file, bad_input, class_of}
 use Rattle.pac_inputs.specs.Reads.{HasRead, ReadsNot, GathersAll, MeetsLongFile, GathersNot}
 use Rattle.pac_inputs.specs.Shelves.{Shelf, names_of, Asks, AsksSome}
 use Rattle.pac_inputs.specs.declared.gathering.Wanted.{Wanted}
@@ -171,6 +171,7 @@ broke_at (bad_read name) wanted left inputs file old now new fault h r = record 
   rose = subst (λ (n : ℕ). Rose n new.faults) h.count r.rose;
 }
 broke_at bad_write wanted left inputs file old now new fault h r = absurd r
+broke_at (bad_bus done) wanted left inputs file old now new fault h r = absurd r
 broke_at (long_file name limit) wanted left inputs file old now new fault h r =
     subst (λ (l : Wanted). MeetsLongFile wanted l old new fault) r.same_file (record {
       told_as = subst (λ (l : Wanted). fault ≡ Limit (FileTooLong l.name l.limit)) (sym r.same_file) r.told_as;

@@ -1,9 +1,10 @@
-// The program `pac`: hands the words of the command line and the real files and streams to the top
-// call, and ends with its status.
+// The program `pac`: hands the words of the command line, the real files and streams, and buses of each
+// kind that words can choose to the top call, and ends with its status.
 #![tactic(auto)]
 
 use pac_base::{Text, TextFault};
-use pac_cli::run_pac;
+use pac_bus::{AnyBus, MemBus, ZeroBus};
+use pac_cli::{BusKind, BusSlot, run_pac};
 use pac_io::{StdFiles, StdSink};
 use std::io::ErrorKind;
 use std::process::ExitCode;
@@ -21,10 +22,37 @@ fn main(rt: HostRuntime) -> ExitCode {
         Ok(words) => words,
         Err(status) => return ExitCode::from(status),
     };
+    let alloc = rt.alloc();
+    let (Ok(zeros), Ok(memory)) = (
+        Box::new(alloc, ZeroBus::new(alloc)),
+        Box::new(alloc, MemBus::new(alloc)),
+    ) else {
+        return ExitCode::from(NO_MEMORY);
+    };
+    let slots = [
+        BusSlot {
+            kind: BusKind::Zero,
+            bus: AnyBus { bus: zeros },
+        },
+        BusSlot {
+            kind: BusKind::Memory,
+            bus: AnyBus { bus: memory },
+        },
+    ];
+    let Ok(mut buses) = Vec::from_array(alloc, slots) else {
+        return ExitCode::from(NO_MEMORY);
+    };
     let mut files = StdFiles::new(&rt);
     let mut out = StdSink::new(io::writer(&rt));
     let mut err = StdSink::new(rt.stderr());
-    let outcome = run_pac(rt.alloc(), words.as_slice(), &mut files, &mut out, &mut err);
+    let outcome = run_pac(
+        rt.alloc(),
+        words.as_slice(),
+        &mut files,
+        &mut out,
+        &mut err,
+        &mut buses,
+    );
     ExitCode::from(outcome.status)
 }
 

@@ -1,5 +1,6 @@
 use pac_base::Text;
-use pac_cli::{Told, run_pac};
+use pac_bus::{AnyBus, Bus, MemBus, ZeroBus};
+use pac_cli::{BusKind, BusSlot, Told, run_pac};
 use pac_io::{MemFiles, MemSink};
 use std::process::Abort;
 use std::test::Fail;
@@ -18,18 +19,52 @@ pub struct Wanted<'a> {
     pub fault: &'a str,
 }
 
-/// Calls `pac` with these words over these files, and compares.
+/// Calls `pac` with these words over these files and the buses of the program, and compares.
 pub fn call(
+    rt: &(impl Abort + AllocGlobal),
+    words: &[&str],
+    files: MemFiles,
+    out: MemSink,
+    wanted: &Wanted<'_>,
+) -> Result<(), Fail> {
+    let zeros = AnyBus {
+        bus: Box::new(rt.alloc(), ZeroBus::new(rt.alloc()))?,
+    };
+    let memory = AnyBus {
+        bus: Box::new(rt.alloc(), MemBus::new(rt.alloc()))?,
+    };
+    let mut buses = Vec::new(rt.alloc());
+    buses.push(BusSlot {
+        kind: BusKind::Zero,
+        bus: zeros,
+    })?;
+    buses.push(BusSlot {
+        kind: BusKind::Memory,
+        bus: memory,
+    })?;
+    call_over(rt, words, files, out, buses, wanted)
+}
+
+/// The same over these buses.
+pub fn call_over<B: Bus>(
     rt: &(impl Abort + AllocGlobal),
     words: &[&str],
     mut files: MemFiles,
     mut out: MemSink,
+    mut buses: Vec<BusSlot<B>>,
     wanted: &Wanted<'_>,
 ) -> Result<(), Fail> {
     let row = wanted.row;
     let texts = texts(rt, words)?;
     let mut err = MemSink::new(rt.alloc());
-    let outcome = run_pac(rt.alloc(), texts.as_slice(), &mut files, &mut out, &mut err);
+    let outcome = run_pac(
+        rt.alloc(),
+        texts.as_slice(),
+        &mut files,
+        &mut out,
+        &mut err,
+        &mut buses,
+    );
     assert_eq!(rt; outcome.status, wanted.status, "{row}");
     assert_eq!(rt; outcome.told, Told::Whole, "{row}");
     assert_eq!(rt; out.written(), wanted.output.as_bytes(), "{row}");

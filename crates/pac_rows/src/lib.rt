@@ -1,7 +1,9 @@
-// The worked rows: whole calls of `pac` over files and sinks in memory, with their outputs, fault
+// The worked rows: whole calls of `pac` over files, sinks and buses in memory, with their outputs, fault
 // lines and statuses.
 #![tactic(auto)]
 
+#[cfg(test)]
+mod executed;
 #[cfg(test)]
 mod faults;
 #[cfg(test)]
@@ -10,6 +12,8 @@ mod generated;
 mod harness;
 #[cfg(test)]
 mod inputs;
+#[cfg(test)]
+mod ran;
 #[cfg(test)]
 mod registers;
 #[cfg(test)]

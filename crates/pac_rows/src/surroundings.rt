@@ -1,5 +1,6 @@
 use crate::harness::{ONE_REGISTER, call, described, file, lists, refusal, texts};
-use pac_cli::{Told, run_pac};
+use pac_bus::ZeroBus;
+use pac_cli::{BusSlot, Told, run_pac};
 use pac_io::{MemFiles, MemSink};
 use std::test::Fail;
 
@@ -7,7 +8,7 @@ const USAGE: &str =
     "usage: pac list SVD, generate SVD, exec CRATE SCRIPT, run SVD SCRIPT or sample NUMBER COUNT, with --patch P, --strict, --bus zero or memory";
 
 // Words that are those of no command.
-const WORDS: [&[&str]; 19] = [
+const WORDS: [&[&str]; 26] = [
     &[],
     &[""],
     &["--"],
@@ -26,7 +27,14 @@ const WORDS: [&[&str]; 19] = [
     &["list", "x.svd", "y.svd"],
     &["generate"],
     &["--", "list", "x.svd"],
-    &["exec", "x.rs", "x.script"],
+    &["run", "x.svd"],
+    &["sample", "0", "1"],
+    &["exec"],
+    &["exec", "x.rs"],
+    &["exec", "x.rs", "x.script", "--bus"],
+    &["exec", "x.rs", "x.script", "--bus", "device"],
+    &["exec", "x.rs", "x.script", "--bus=mem"],
+    &["exec", "x.rs", "x.script", "--bus=zero", "--bus=zero"],
 ];
 
 #[test]
@@ -40,7 +48,7 @@ fn words_of_no_command(rt: HostRuntime) -> Result<(), Fail> {
 }
 
 // Words that name a file, and the name.
-const FILE_WORDS: [(&[&str], &str); 7] = [
+const FILE_WORDS: [(&[&str], &str); 12] = [
     (&["generate", "x.svd"], "cannot read x.svd"),
     (&["list", "x.svd"], "cannot read x.svd"),
     (&["list", "--", "x.svd"], "cannot read x.svd"),
@@ -48,6 +56,20 @@ const FILE_WORDS: [(&[&str], &str); 7] = [
     (&["list", "help"], "cannot read help"),
     (&["list", "-"], "cannot read -"),
     (&["list", ""], "cannot read "),
+    (&["exec", "x.rs", "x.script"], "cannot read x.rs"),
+    (
+        &["exec", "--bus=memory", "x.rs", "x.script"],
+        "cannot read x.rs",
+    ),
+    (
+        &["exec", "x.rs", "--bus", "zero", "x.script"],
+        "cannot read x.rs",
+    ),
+    (&["exec", "--", "--bus", "zero"], "cannot read --bus"),
+    (
+        &["run", "x.svd", "x.script", "--bus=memory"],
+        "cannot read x.svd",
+    ),
 ];
 
 #[test]
@@ -76,7 +98,15 @@ fn an_error_output_that_fails(rt: HostRuntime) -> Result<(), Fail> {
     let mut err = MemSink::new(rt.alloc());
     err.fail(1)?;
     let words = texts(&rt, &["list", "x.svd"])?;
-    let outcome = run_pac(rt.alloc(), words.as_slice(), &mut files, &mut out, &mut err);
+    let mut buses: Vec<BusSlot<ZeroBus>> = Vec::new(rt.alloc());
+    let outcome = run_pac(
+        rt.alloc(),
+        words.as_slice(),
+        &mut files,
+        &mut out,
+        &mut err,
+        &mut buses,
+    );
     assert_eq!(rt; outcome.status, 3);
     assert_eq!(rt; outcome.told, Told::Failed);
     assert_eq!(rt; err.written(), b"".as_slice());
@@ -104,7 +134,15 @@ fn sinks_whose_second_write_fails(rt: HostRuntime) -> Result<(), Fail> {
     out.fail(2)?;
     let mut err = MemSink::new(rt.alloc());
     let words = texts(&rt, &["list", "x.svd"])?;
-    let outcome = run_pac(rt.alloc(), words.as_slice(), &mut files, &mut out, &mut err);
+    let mut buses: Vec<BusSlot<ZeroBus>> = Vec::new(rt.alloc());
+    let outcome = run_pac(
+        rt.alloc(),
+        words.as_slice(),
+        &mut files,
+        &mut out,
+        &mut err,
+        &mut buses,
+    );
     assert_eq!(rt; outcome.status, 4);
     assert_eq!(rt; err.written(), b"pac: cannot write\n".as_slice());
     assert!(rt;

@@ -3,7 +3,9 @@ use Rattle.std.proofs.Common.{◌≡◌, refl, Option, Some, None, List, [], ◌
 use Rattle.clap.proofs.OnLiterals.{clap_on_literals}
 use Rattle.pac_words.specs.Commands.{command_of}
 use Rattle.pac_words.specs.declared.command.Command.{Command}
-use Rattle.pac_words.specs.declared.command.Command.TheVariants.{Generating, Listing}
+use Rattle.pac_words.specs.declared.command.Command.TheVariants.{Executing, Generating, Listing, Running}
+use Rattle.pac_words.specs.declared.command.BusKind.{BusKind}
+use Rattle.pac_words.specs.declared.command.BusKind.TheVariants.{Zero, Memory}
 
 listing_of : List ℕ → Option Command
 listing_of svd = Some (Listing (record { svd = svd }))
@@ -53,7 +55,63 @@ generated : command_of (codes "generate" ∷ codes "x.svd" ∷ []) ≡ Some (Gen
 unfolding clap_on_literals command_of
 generated = refl
 
+-- ---- `exec`
+
+executing_of : BusKind → Option Command
+executing_of bus = Some (Executing (codes "x.rs") (record { script = codes "y"; bus = bus }))
+
+executed : command_of (codes "exec" ∷ codes "x.rs" ∷ codes "y" ∷ []) ≡ executing_of Zero
+unfolding clap_on_literals command_of executing_of
+executed = refl
+
+over_zeros : command_of (codes "exec" ∷ codes "x.rs" ∷ codes "y" ∷ codes "--bus" ∷ codes "zero" ∷ []) ≡ executing_of Zero
+unfolding clap_on_literals command_of executing_of
+over_zeros = refl
+
+over_memory : command_of (codes "exec" ∷ codes "--bus" ∷ codes "memory" ∷ codes "x.rs" ∷ codes "y" ∷ []) ≡ executing_of Memory
+unfolding clap_on_literals command_of executing_of
+over_memory = refl
+
+joined_to_its_value : command_of (codes "exec" ∷ codes "x.rs" ∷ codes "--bus=memory" ∷ codes "y" ∷ []) ≡ executing_of Memory
+unfolding clap_on_literals command_of executing_of
+joined_to_its_value = refl
+
+-- no word chooses a device, and each word is whole
+no_device : command_of (codes "exec" ∷ codes "x.rs" ∷ codes "y" ∷ codes "--bus=device" ∷ []) ≡ None
+unfolding clap_on_literals command_of
+no_device = refl
+
+no_part_of_a_word : command_of (codes "exec" ∷ codes "x.rs" ∷ codes "y" ∷ codes "--bus=mem" ∷ []) ≡ None
+unfolding clap_on_literals command_of
+no_part_of_a_word = refl
+
+no_value : command_of (codes "exec" ∷ codes "x.rs" ∷ codes "y" ∷ codes "--bus" ∷ []) ≡ None
+unfolding clap_on_literals command_of
+no_value = refl
+
+two_buses : command_of (codes "exec" ∷ codes "x.rs" ∷ codes "y" ∷ codes "--bus=zero" ∷ codes "--bus=zero" ∷ []) ≡ None
+unfolding clap_on_literals command_of
+two_buses = refl
+
+no_script : command_of (codes "exec" ∷ codes "x.rs" ∷ []) ≡ None
+unfolding clap_on_literals command_of
+no_script = refl
+
+a_bus_that_lists : command_of (codes "list" ∷ codes "x.svd" ∷ codes "--bus=zero" ∷ []) ≡ None
+unfolding clap_on_literals command_of
+a_bus_that_lists = refl
+
+-- ---- `run`
+
+run_over_memory : command_of (codes "run" ∷ codes "x.svd" ∷ codes "--bus" ∷ codes "memory" ∷ codes "y" ∷ []) ≡ Some (Running (record { svd = codes "x.svd" }) (record { script = codes "y"; bus = Memory }))
+unfolding clap_on_literals command_of
+run_over_memory = refl
+
+run_without_script : command_of (codes "run" ∷ codes "x.svd" ∷ []) ≡ None
+unfolding clap_on_literals command_of
+run_without_script = refl
+
 -- a command that isn't built is none
-not_built : command_of (codes "exec" ∷ codes "x.rs" ∷ codes "y" ∷ []) ≡ None
+not_built : command_of (codes "sample" ∷ codes "0" ∷ codes "1" ∷ []) ≡ None
 unfolding clap_on_literals command_of
 not_built = refl

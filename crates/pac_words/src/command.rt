@@ -1,6 +1,6 @@
 ghost use Rattle.std.specs.Prelude.{◌≡◌, IfOk, map};
 ghost use Rattle.clap.specs.Words.{first_of, found_of, rows_of};
-ghost use Rattle.pac_words.specs.Commands.{command_of, generating, listing, source_of, told};
+ghost use Rattle.pac_words.specs.Commands.{bus_of, command_of, executing, generating, kind_of, listing, run_of, running, source_of, told};
 
 use crate::table::table;
 use clap::ArgMatches;
@@ -21,6 +21,20 @@ pub enum Command {
         /// The description.
         source: Source,
     },
+    /// `exec CRATE SCRIPT`: what a script does against a crate text.
+    Executing {
+        /// The name of the crate text's file, as the words have it.
+        krate: Text,
+        /// The script, and over which bus it runs.
+        run: Run,
+    },
+    /// `run SVD SCRIPT`: what a script does against the crate text of a description.
+    Running {
+        /// The description.
+        source: Source,
+        /// The script, and over which bus it runs.
+        run: Run,
+    },
 }
 
 /// The files that a description comes from.
@@ -30,7 +44,28 @@ pub struct Source {
     pub svd: Text,
 }
 
-/// The command that the words ask for, or `None` exactly where `clap` refuses them.
+/// A script, and over which bus it runs.
+#[derive(Drop)]
+pub struct Run {
+    /// The name of the script's file, as the words have it.
+    pub script: Text,
+    /// The kind of the bus: `zero` where the words name none.
+    pub bus: BusKind,
+}
+
+/// The kinds of buses. A word of `--bus` chooses each but the last, which no word chooses yet.
+#[derive(Clone, Copy, Debug, PartialEq, Eq)]
+pub enum BusKind {
+    /// `zero`: each read gives 0.
+    Zero,
+    /// `memory`: a read gives what was written there.
+    Memory,
+    /// A device, as a description has it.
+    Device,
+}
+
+/// The command that the words ask for, or `None` exactly where `clap` refuses them, or the word of `--bus`
+/// names no bus.
 pub fn command_of(alloc: Global, words: &[Text]) -> Result<Option<Command>, NoMemory>
     ensures { IfOk result (λ command. command ≡ command_of words.now) }
 {
@@ -69,6 +104,8 @@ fn told(alloc: Global, name: &str, matches: &ArgMatches<'_>) -> Result<Option<Co
     match name {
         "list" => listing(alloc, matches),
         "generate" => generating(alloc, matches),
+        "exec" => executing(alloc, matches),
+        "run" => running(alloc, matches),
         _ => Ok(None),
     }
 }
@@ -88,6 +125,63 @@ fn generating(alloc: Global, matches: &ArgMatches<'_>) -> Result<Option<Command>
     match source_of(alloc, matches)? {
         Some(source) => Ok(Some(Command::Generating { source })),
         None => Ok(None),
+    }
+}
+
+fn executing(alloc: Global, matches: &ArgMatches<'_>) -> Result<Option<Command>, NoMemory>
+    ensures { IfOk result (λ command. command ≡ executing (rows_of (found_of matches.now))) }
+{
+    let Some(krate) = value(alloc, matches, "crate")? else {
+        return Ok(None);
+    };
+    match run_of(alloc, matches)? {
+        Some(run) => Ok(Some(Command::Executing { krate, run })),
+        None => Ok(None),
+    }
+}
+
+fn running(alloc: Global, matches: &ArgMatches<'_>) -> Result<Option<Command>, NoMemory>
+    ensures { IfOk result (λ command. command ≡ running (rows_of (found_of matches.now))) }
+{
+    let Some(source) = source_of(alloc, matches)? else {
+        return Ok(None);
+    };
+    match run_of(alloc, matches)? {
+        Some(run) => Ok(Some(Command::Running { source, run })),
+        None => Ok(None),
+    }
+}
+
+fn run_of(alloc: Global, matches: &ArgMatches<'_>) -> Result<Option<Run>, NoMemory>
+    ensures { IfOk result (λ found. found ≡ run_of (rows_of (found_of matches.now))) }
+{
+    let Some(script) = value(alloc, matches, "script")? else {
+        return Ok(None);
+    };
+    match bus_of(alloc, matches)? {
+        Some(bus) => Ok(Some(Run { script, bus })),
+        None => Ok(None),
+    }
+}
+
+/// The kind of bus that the words choose.
+fn bus_of(alloc: Global, matches: &ArgMatches<'_>) -> Result<Option<BusKind>, NoMemory>
+    ensures { IfOk result (λ found. found ≡ bus_of (rows_of (found_of matches.now))) }
+{
+    match value(alloc, matches, "bus")? {
+        Some(word) => Ok(kind_of(word.as_str())),
+        None => Ok(Some(BusKind::Zero)),
+    }
+}
+
+/// The kind of bus that a word names.
+fn kind_of(word: &str) -> Option<BusKind>
+    ensures { result ≡ kind_of word.now }
+{
+    match word {
+        "zero" => Some(BusKind::Zero),
+        "memory" => Some(BusKind::Memory),
+        _ => None,
     }
 }
 

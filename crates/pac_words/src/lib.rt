@@ -5,5 +5,5 @@ mod command;
 mod laws;
 mod table;
 
-pub use command::{Command, Source, command_of};
+pub use command::{BusKind, Command, Run, Source, command_of};
 pub use laws::asks_without_fault;

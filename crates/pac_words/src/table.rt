@@ -1,7 +1,7 @@
 ghost use Rattle.std.specs.Prelude.{◌≡◌, IfOk, false};
 ghost use Rattle.clap.specs.Words.{app_of, rule_of, shape_of};
 ghost use Rattle.clap.specs.declared.builder.command.Command.TheViews.{out-Command as fields_of};
-ghost use Rattle.pac_words.specs.Table.{file, generate, list, table};
+ghost use Rattle.pac_words.specs.Table.{commands, exec, file, generate, list, option, printing, run, table};
 
 use clap::{Arg, Command};
 use std::alloc::{AllocError, Global};
@@ -12,6 +12,14 @@ fn file<'a>(alloc: Global, id: &'a str) -> Arg<'a>
     ensures local { result.global ≡ false }
 {
     Arg::new(alloc, id).required(true)
+}
+
+/// An option with one value.
+fn option<'a>(alloc: Global, id: &'a str) -> Arg<'a>
+    ensures rule { rule_of result ≡ option id.entry.now }
+    ensures local { result.global ≡ false }
+{
+    Arg::new(alloc, id).long(id)
 }
 
 fn list<'a>(alloc: Global) -> Result<Command<'a>, AllocError>
@@ -26,9 +34,27 @@ fn generate<'a>(alloc: Global) -> Result<Command<'a>, AllocError>
     Command::new(alloc, "generate").arg(file(alloc, "svd"))
 }
 
-/// The commands that are built. One has to be chosen, and no word asks for help.
-pub(crate) fn table<'a>(alloc: Global) -> Result<Command<'a>, AllocError>
-    ensures { IfOk result (λ command. app_of command ≡ table) }
+fn exec<'a>(alloc: Global) -> Result<Command<'a>, AllocError>
+    ensures { IfOk result (λ command. (shape_of command ≡ exec) × ((fields_of command).has_globals ≡ false)) }
+{
+    Command::new(alloc, "exec")
+        .arg(file(alloc, "crate"))?
+        .arg(file(alloc, "script"))?
+        .arg(option(alloc, "bus"))
+}
+
+fn run<'a>(alloc: Global) -> Result<Command<'a>, AllocError>
+    ensures { IfOk result (λ command. (shape_of command ≡ run) × ((fields_of command).has_globals ≡ false)) }
+{
+    Command::new(alloc, "run")
+        .arg(file(alloc, "svd"))?
+        .arg(file(alloc, "script"))?
+        .arg(option(alloc, "bus"))
+}
+
+/// The commands that print a description.
+fn printing<'a>(alloc: Global) -> Result<Command<'a>, AllocError>
+    ensures { IfOk result (λ command. app_of command ≡ commands printing) }
 {
     Command::new(alloc, "pac")
         .no_binary_name(true)
@@ -37,4 +63,13 @@ pub(crate) fn table<'a>(alloc: Global) -> Result<Command<'a>, AllocError>
         .subcommand_required(true)
         .subcommand(list(alloc)?)?
         .subcommand(generate(alloc)?)
+}
+
+/// The commands that are built. One has to be chosen, and no word asks for help.
+pub(crate) fn table<'a>(alloc: Global) -> Result<Command<'a>, AllocError>
+    ensures { IfOk result (λ command. app_of command ≡ table) }
+{
+    printing(alloc)?
+        .subcommand(exec(alloc)?)?
+        .subcommand(run(alloc)?)
 }
