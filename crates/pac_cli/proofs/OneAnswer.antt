@@ -21,7 +21,8 @@ use Rattle.pac_cli.specs.Scripts.{CrateReading, untyped, typed}
 use Rattle.pac_inputs.specs.Gathering.{FileMap, Gathering, inputs_are, is_too_long, Gathered, gathered_from}
 use Rattle.pac_inputs.specs.declared.gathering.Wanted.{Wanted}
 use Rattle.pac_cli.specs.Inputs.{files_of}
-use Rattle.pac_cli.specs.Resolving.{Resolution, stopped, resolved, SourceBytes, ComeTo, resolution_of}
+use Rattle.pac_words.specs.declared.command.Source.{Source}
+use Rattle.pac_cli.specs.Resolving.{Resolution, stopped, resolved, SourceBytes, bytes_of, ComeTo, resolution_of}
 use Rattle.table_sem.specs.TableSurface.{table_surface}
 use Rattle.pac_cli.specs.Showing.{Shows}
 use Rattle.pac_cli.specs.Stages.{BrokeOn, MakesFirst}
@@ -34,12 +35,12 @@ abbrev pub OneReading : Type 0
 OneReading = (bytes : List ℕ) (one other : Reading) → HasAnswer bytes one → HasAnswer bytes other → one ≡ other
 
 same_resolution : OneReading → (source : SourceBytes) (one other : Resolution) → ComeTo source one → ComeTo source other → one ≡ other
-same_resolution read source one other a b = a.comes ∙ ap resolution_of (read source.svd a.reading b.reading a.read b.read) ∙ sym b.comes
+same_resolution read source one other a b = a.comes ∙ ap (resolution_of source.policy) (read source.svd a.reading b.reading a.read b.read) ∙ sym b.comes
 
-one_for_source : OneReading → (made : Resolution → Answer) (inputs : List (List ℕ)) (one other : Answer) → DecidesSource made inputs one → DecidesSource made inputs other → one ≡ other
-one_for_source read made [] one other a b = absurd a
-one_for_source read made (svd ∷ []) one other a b = a.answered ∙ ap made (same_resolution read (record { svd = svd }) a.resolution b.resolution a.comes b.comes) ∙ sym b.answered
-one_for_source read made (svd ∷ next ∷ inputs) one other a b = absurd a
+one_for_source : OneReading → (made : Resolution → Answer) (source : Source) (inputs : List (List ℕ)) (one other : Answer) → DecidesSource made source inputs one → DecidesSource made source inputs other → one ≡ other
+one_for_source read made source [] one other a b = absurd a
+one_for_source read made source (svd ∷ []) one other a b = a.answered ∙ ap made (same_resolution read (bytes_of source svd) a.resolution b.resolution a.comes b.comes) ∙ sym b.answered
+one_for_source read made source (svd ∷ next ∷ inputs) one other a b = absurd a
 
 one_for_script : (surface : Surface) (plan : Script → Plan) (bytes : List ℕ) (one other : Answer) → AnswersScript surface plan bytes one → AnswersScript surface plan bytes other → one ≡ other
 one_for_script surface plan bytes one other a b =
@@ -61,20 +62,20 @@ one_on_rows : (resolution : Resolution) (script : List ℕ) (one other : Answer)
 one_on_rows (stopped why) script one other a b = a ∙ sym b
 one_on_rows (resolved rows) script one other a b = one_for_script (table_surface rows) (table_plan rows) script one other a b
 
-one_for_run : OneReading → (inputs : List (List ℕ)) (one other : Answer) → DecidesRun inputs one → DecidesRun inputs other → one ≡ other
-one_for_run read [] one other a b = absurd a
-one_for_run read (svd ∷ []) one other a b = absurd a
-one_for_run read (svd ∷ script ∷ []) one other a b =
+one_for_run : OneReading → (source : Source) (inputs : List (List ℕ)) (one other : Answer) → DecidesRun source inputs one → DecidesRun source inputs other → one ≡ other
+one_for_run read source [] one other a b = absurd a
+one_for_run read source (svd ∷ []) one other a b = absurd a
+one_for_run read source (svd ∷ script ∷ []) one other a b =
     one_on_rows b.resolution script one other
-    (subst (λ (resolution : Resolution). AnswersOnRows resolution script one) (same_resolution read (record { svd = svd }) a.resolution b.resolution a.comes b.comes) a.answered) b.answered
-one_for_run read (svd ∷ script ∷ next ∷ inputs) one other a b = absurd a
+    (subst (λ (resolution : Resolution). AnswersOnRows resolution script one) (same_resolution read (bytes_of source svd) a.resolution b.resolution a.comes b.comes) a.answered) b.answered
+one_for_run read source (svd ∷ script ∷ next ∷ inputs) one other a b = absurd a
 
 -- a command and its inputs decide one answer at most
 pub one_decision_lem : OneReading → (command : Command) (inputs : List (List ℕ)) (one other : Answer) → Decides command inputs one → Decides command inputs other → one ≡ other
-one_decision_lem read (Listing source) inputs one other a b = one_for_source read listed inputs one other a b
-one_decision_lem read (Generating source) inputs one other a b = one_for_source read generated inputs one other a b
+one_decision_lem read (Listing source) inputs one other a b = one_for_source read listed source inputs one other a b
+one_decision_lem read (Generating source) inputs one other a b = one_for_source read generated source inputs one other a b
 one_decision_lem read (Executing krate run) inputs one other a b = one_for_text inputs one other a b
-one_decision_lem read (Running source run) inputs one other a b = one_for_run read inputs one other a b
+one_decision_lem read (Running source run) inputs one other a b = one_for_run read source inputs one other a b
 
 one_on : OneReading → (command : Command) (gathering : Gathering) (one other : Answer) → DecidesOn command gathering one → DecidesOn command gathering other → one ≡ other
 one_on read command (inputs_are inputs) one other a b = one_decision_lem read command inputs one other a b

@@ -14,6 +14,7 @@ use Rattle.pac_words.specs.Commands.{command_of}
 use Rattle.pac_words.specs.declared.command.Command.{Command}
 use Rattle.pac_words.specs.declared.command.Command.TheVariants.{Executing, Generating, Listing, Running}
 use Rattle.pac_words.specs.declared.command.BusKind.{BusKind}
+use Rattle.pac_words.specs.declared.command.Source.{Source}
 
 not_listed : (resolution : Resolution) → refused no_command ≡ listed resolution → ⊥
 unfolding listed
@@ -25,10 +26,10 @@ unfolding generated
 not_generated (stopped why) e = cc e
 not_generated (resolved rows) e = cc e
 
-not_from : (made : Resolution → Answer) → ((resolution : Resolution) → refused no_command ≡ made resolution → ⊥) → (inputs : List (List ℕ)) → DecidesSource made inputs (refused no_command) → ⊥
-not_from made never [] h = h
-not_from made never (svd ∷ []) h = never h.resolution h.answered
-not_from made never (svd ∷ next ∷ inputs) h = h
+not_from : (made : Resolution → Answer) → ((resolution : Resolution) → refused no_command ≡ made resolution → ⊥) → (source : Source) (inputs : List (List ℕ)) → DecidesSource made source inputs (refused no_command) → ⊥
+not_from made never source [] h = h
+not_from made never source (svd ∷ []) h = never h.resolution h.answered
+not_from made never source (svd ∷ next ∷ inputs) h = h
 
 not_typed : (fault : Option LineFault) (plan : Plan) → refused no_command ≡ unless_mistyped fault plan → ⊥
 not_typed None plan e = cc e
@@ -53,17 +54,17 @@ not_on_rows : (resolution : Resolution) (script : List ℕ) → AnswersOnRows re
 not_on_rows (stopped why) script h = cc h
 not_on_rows (resolved rows) script h = not_scripted (table_surface rows) (table_plan rows) h.reading h.answered
 
-not_for_run : (inputs : List (List ℕ)) → DecidesRun inputs (refused no_command) → ⊥
-not_for_run [] h = h
-not_for_run (svd ∷ []) h = h
-not_for_run (svd ∷ script ∷ []) h = not_on_rows h.resolution script h.answered
-not_for_run (svd ∷ script ∷ next ∷ inputs) h = h
+not_for_run : (source : Source) (inputs : List (List ℕ)) → DecidesRun source inputs (refused no_command) → ⊥
+not_for_run source [] h = h
+not_for_run source (svd ∷ []) h = h
+not_for_run source (svd ∷ script ∷ []) h = not_on_rows h.resolution script h.answered
+not_for_run source (svd ∷ script ∷ next ∷ inputs) h = h
 
 not_decided : (command : Command) (inputs : List (List ℕ)) → Decides command inputs (refused no_command) → ⊥
-not_decided (Listing source) inputs h = not_from listed not_listed inputs h
-not_decided (Generating source) inputs h = not_from generated not_generated inputs h
+not_decided (Listing source) inputs h = not_from listed not_listed source inputs h
+not_decided (Generating source) inputs h = not_from generated not_generated source inputs h
 not_decided (Executing krate run) inputs h = not_for_text inputs h
-not_decided (Running source run) inputs h = not_for_run inputs h
+not_decided (Running source run) inputs h = not_for_run source inputs h
 
 not_on : (command : Command) (gathering : Gathering) → DecidesOn command gathering (refused no_command) → ⊥
 not_on command (inputs_are inputs) h = not_decided command inputs h

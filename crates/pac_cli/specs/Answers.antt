@@ -23,10 +23,11 @@ use Rattle.pac_words.specs.Commands.{command_of}
 use Rattle.pac_words.specs.declared.command.BusKind.{BusKind}
 use Rattle.pac_words.specs.declared.command.Command.{Command}
 use Rattle.pac_words.specs.declared.command.Command.TheVariants.{Executing, Generating, Listing, Running}
+use Rattle.pac_words.specs.declared.command.Source.{Source}
 use Rattle.pac_inputs.specs.Gathering.{FileMap, Gathering, inputs_are, is_too_long, Gathered}
 use Rattle.pac_cli.specs.Buses.{bus_of, missing_kind}
 use Rattle.pac_cli.specs.Inputs.{files_of}
-use Rattle.pac_cli.specs.Resolving.{Unresolved, Resolution, stopped, resolved, SourceBytes, ComeTo}
+use Rattle.pac_cli.specs.Resolving.{Unresolved, Resolution, stopped, resolved, SourceBytes, bytes_of, ComeTo}
 use Rattle.pac_cli.specs.Scripts.{Untyped, CrateReading, untyped, typed, CrateReadAs, Unscripted, ScriptReading, unread, mistyped, spelled, ScriptReadAs}
 
 -- why a command isn't done
@@ -126,9 +127,9 @@ pub record AnswersRun (source : SourceBytes) (script : List ℕ) (answer : Answe
 -- ---- all commands
 
 -- the same of the inputs of a command whose files are those of a description
-abbrev pub DecidesSource : (Resolution → Answer) → List (List ℕ) → Answer → Type 0
-DecidesSource made (svd ∷ []) answer = AnswersSource made (record { svd = svd }) answer
-DecidesSource made _ answer = ⊥
+abbrev pub DecidesSource : (Resolution → Answer) → Source → List (List ℕ) → Answer → Type 0
+DecidesSource made source (svd ∷ []) answer = AnswersSource made (bytes_of source svd) answer
+DecidesSource made source _ answer = ⊥
 
 -- the same of the inputs of a command whose files are a crate text and a script
 abbrev pub DecidesText : List (List ℕ) → Answer → Type 0
@@ -136,16 +137,16 @@ DecidesText (krate ∷ script ∷ []) answer = AnswersText krate script answer
 DecidesText _ answer = ⊥
 
 -- the same of a description and a script
-abbrev pub DecidesRun : List (List ℕ) → Answer → Type 0
-DecidesRun (svd ∷ script ∷ []) answer = AnswersRun (record { svd = svd }) script answer
-DecidesRun _ answer = ⊥
+abbrev pub DecidesRun : Source → List (List ℕ) → Answer → Type 0
+DecidesRun source (svd ∷ script ∷ []) answer = AnswersRun (bytes_of source svd) script answer
+DecidesRun source _ answer = ⊥
 
 -- the answer to a command with these inputs
 abbrev pub Decides : Command → List (List ℕ) → Answer → Type 0
-Decides (Listing source) inputs answer = DecidesSource listed inputs answer
-Decides (Generating source) inputs answer = DecidesSource generated inputs answer
+Decides (Listing source) inputs answer = DecidesSource listed source inputs answer
+Decides (Generating source) inputs answer = DecidesSource generated source inputs answer
 Decides (Executing krate run) inputs answer = DecidesText inputs answer
-Decides (Running source run) inputs answer = DecidesRun inputs answer
+Decides (Running source run) inputs answer = DecidesRun source inputs answer
 
 -- the answer to a command by what reading its files came to
 abbrev pub DecidesOn : Command → Gathering → Answer → Type 0

@@ -7,7 +7,7 @@ use Rattle.frag_tree.specs.Crates.{Parses, printed}
 use Rattle.frag_tree.specs.Trees.{CrateTree}
 use Rattle.frag_tree.specs.Validity.{valid_crate}
 use Rattle.pac_cli.specs.Inputs.{files_of}
-use Rattle.pac_cli.specs.Resolving.{ComeTo, SourceBytes, resolved}
+use Rattle.pac_cli.specs.Resolving.{ComeTo, SourceBytes, bytes_of, resolved}
 use Rattle.pac_inputs.specs.Gathering.{FileMap, Gathered, inputs_are}
 use Rattle.pac_words.specs.declared.command.Command.{Command}
 use Rattle.pac_words.specs.declared.command.Command.TheVariants.{Executing, Generating, Listing, Running}
@@ -39,7 +39,7 @@ WritesText (Listing source) inputs old new = ⊤
 WritesText (Executing krate run) inputs old new = ⊤
 WritesText (Running source run) inputs old new = ⊤
 WritesText (Generating source) [] old new = ⊤
-WritesText (Generating source) (svd ∷ inputs) old new = WritesTextFor (record { svd = svd }) old new
+WritesText (Generating source) (svd ∷ inputs) old new = WritesTextFor (bytes_of source svd) old new
 
 -- the inputs of a command, which told files have, and the text that it writes
 pub record HasText (command : Command) (told : Option FileMap) (old new : Option (List ℕ)) : Type 0 where

@@ -1,6 +1,6 @@
 -- What the files of a description come to: reading, deriving, unfolding and checking one after the other, of which the first that
--- finds a fault stops the rest, or the rows that they leave. This project's own order.
-use Rattle.std.specs.Prelude.{◌≡◌, ℕ, List, Option, Some, None, option_map, option_and_then}
+-- finds a fault stops the rest, or the rows that they leave. Overlaps are faults where the words ask for it. This project's own order.
+use Rattle.std.specs.Prelude.{◌≡◌, ℕ, List, Option, Some, None, option_map, option_and_then, if◌then◌else◌}
 use Rattle.pac_base.specs.declared.path.Step.{Step as NamedStep}
 use Rattle.dim_expand.specs.declared.fault.Cause.{Cause as DimCause}
 use Rattle.dim_expand.specs.declared.fault.Cause.TheVariants.{Zero, TooLong, NoMark, IndexCount}
@@ -8,9 +8,12 @@ use Rattle.dim_expand.specs.declared.fault.DimFault.{DimFault}
 use Rattle.dim_expand.specs.declared.fault.DimFault.TheVariants as dim
 use Rattle.dim_expand.specs.Faults.{first_fault}
 use Rattle.dim_expand.specs.Unfolding.{unfolded_rows}
-use Rattle.overlap_check.specs.Told.{first_of}
+use Rattle.overlap_check.specs.Told.{faults, first_of}
+use Rattle.overlap_check.specs.declared.fault.CheckFault.{CheckFault}
+use Rattle.overlap_check.specs.declared.fault.Policy.{Policy}
+use Rattle.overlap_check.specs.declared.fault.Policy.TheVariants.{Loose, Strict}
+use Rattle.pac_words.specs.declared.command.Source.{Source}
 use Rattle.svd_keys.specs.declared.fault.Fault.{Fault as KeyFault}
-use Rattle.svd_model.specs.Checking.{Fault, loose_faults}
 use Rattle.svd_model.specs.Counting.{told_count}
 use Rattle.svd_model.specs.declared.counted.Counted.{Counted}
 use Rattle.svd_model.specs.declared.counted.Counted.TheVariants.{Elements}
@@ -28,7 +31,7 @@ pub data Unresolved : Type 0 where
   too_many : Counted → (count : ℕ) → Unresolved
   unbuilt : (path : List NamedStep) → Unresolved
   misdimensioned : (path : List NamedStep) → DimCause → Unresolved
-  fails_check : Fault → Unresolved
+  fails_check : CheckFault → Unresolved
 
 -- what a description comes to
 pub data Resolution : Type 0 where
@@ -70,20 +73,29 @@ dim_stops dim.Memory = None
 unfoldable pub by_unfolding : List (Row Step Key) → Resolution
 by_unfolding all = unless (option_and_then dim_stops (first_fault all)) (unfolded_rows all)
 
--- the whole is checked
-unfoldable pub by_checking : List (Row Step Key) → Resolution
-by_checking all = unless (option_map fails_check (first_of (loose_faults all))) all
+-- the whole is checked, for the faults that are asked for
+unfoldable pub by_checking : Policy → List (Row Step Key) → Resolution
+by_checking policy all = unless (option_map fails_check (first_of (faults policy all))) all
 
 -- all stages behind reading
-unfoldable pub resolution_of : Reading → Resolution
-resolution_of reading = then_by by_checking (then_by by_unfolding (then_by by_deriving (by_reading reading)))
+unfoldable pub resolution_of : Policy → Reading → Resolution
+resolution_of policy reading = then_by (by_checking policy) (then_by by_unfolding (then_by by_deriving (by_reading reading)))
 
--- the bytes of the files that a description comes from
+-- which faults are asked for: overlaps too where the words say so
+abbrev pub policy_of : Source → Policy
+policy_of source = if source.strict then Strict else Loose
+
+-- the bytes of the files that a description comes from, and which faults are asked for
 pub record SourceBytes : Type 0 where
   pub svd : List ℕ
+  pub policy : Policy
+
+-- those of the description that the words name
+abbrev pub bytes_of : Source → List ℕ → SourceBytes
+bytes_of source svd = record { svd = svd; policy = policy_of source }
 
 -- the files come to this
 pub record ComeTo (source : SourceBytes) (resolution : Resolution) : Type 0 where
   pub reading : Reading
   pub read : HasAnswer source.svd reading
-  pub comes : resolution ≡ resolution_of reading
+  pub comes : resolution ≡ resolution_of source.policy reading

@@ -6,7 +6,6 @@ use Rattle.frag_script.specs.declared.fault.ScriptFault.TheVariants as script
 use Rattle.frag_script.specs.declared.fault.ScriptTyping.{ScriptTyping}
 use Rattle.frag_types.specs.declared.fault.CrateFault.TheVariants as krate
 use Rattle.frag_types.specs.declared.fault.CrateTyping.{CrateTyping}
-use Rattle.overlap_check.specs.Told.{told_fault}
 use Rattle.pac_base.specs.declared.span.Span.{Span}
 use Rattle.svd_reader.specs.Described.{at_fault}
 use Rattle.svd_reader.specs.Refusals.{Tells}
@@ -28,7 +27,7 @@ ShowsUnresolved (misdescribed found) fault = (told : SvdFault) × Tells told (at
 ShowsUnresolved (too_many kind count) fault = fault ≡ Limit (TooMany kind count)
 ShowsUnresolved (unbuilt path) fault = fault ≡ Unbuilt path
 ShowsUnresolved (misdimensioned path cause) fault = fault ≡ Dim (fault_of path cause)
-ShowsUnresolved (fails_check found) fault = fault ≡ Check (told_fault found)
+ShowsUnresolved (fails_check found) fault = fault ≡ Check found
 
 -- why a crate text comes to no crate that fits, as a fault
 abbrev pub ShowsUntyped : Untyped → PacFault → Type 0

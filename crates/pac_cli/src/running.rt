@@ -10,6 +10,7 @@ use crate::resolving::resolve;
 use crate::script::run_script;
 use frag_emit::emit;
 use frag_types::{TypedCrate, type_crate};
+use overlap_check::Policy;
 use pac_bus::Bus;
 use pac_fault::PacFault;
 use pac_io::Sink;
@@ -21,18 +22,19 @@ use svd_model::Checked;
 pub(crate) fn run_against<B: Bus, S: Sink>(
     alloc: Global,
     svd: &[u8],
+    policy: Policy,
     script: &[u8],
     bus: &mut B,
     out: &mut S,
 ) -> Result<(), PacFault>
     requires description { length svd.now ≤ 67_108_864 }
     requires script { length script.now ≤ 67_108_864 }
-    ensures { Does (AnswersRun (record { svd = svd.now }) script.now)
+    ensures { Does (AnswersRun (record { svd = svd.now; policy = policy }) script.now)
         (desk (paper (S.written out.old) (S.faults out.old)) (Some (B.told bus.old)))
         (desk (paper (S.written out.new) (S.faults out.new)) (Some (B.told bus.new)))
         result }
 {
-    let state = resolve(alloc, svd)?;
+    let state = resolve(alloc, svd, policy)?;
     let krate = emitted(alloc, &state)?;
     run_script(alloc, &krate, script, bus, out)
 }

@@ -17,4 +17,6 @@ mod ran;
 #[cfg(test)]
 mod registers;
 #[cfg(test)]
+mod strict;
+#[cfg(test)]
 mod surroundings;

@@ -47,7 +47,7 @@ fn listed_descriptions(rt: HostRuntime) -> Result<(), Fail> {
 }
 
 // Registers of `T`, and the lines that list them.
-const LISTED: [(&str, &str, &str); 10] = [
+const LISTED: [(&str, &str, &str); 9] = [
     (
         "whole_64_bit_word",
         "<register><name>L</name><addressOffset>0</addressOffset><size>64</size><fields><field><name>V</name><bitOffset>0</bitOffset><bitWidth>64</bitWidth></field></fields></register>",
@@ -62,11 +62,6 @@ const LISTED: [(&str, &str, &str); 10] = [
         "keyword_names",
         "<register><name>type</name><addressOffset>0</addressOffset></register><register><name>READ</name><addressOffset>4</addressOffset></register>",
         "T.type_ 0x40000000 32 rw 0x00000000\nT.read_ 0x40000004 32 rw 0x00000000\n",
-    ),
-    (
-        "alternate_registers",
-        "<register><name>CCMR1_OUTPUT</name><addressOffset>0x18</addressOffset></register><register><name>CCMR1_INPUT</name><addressOffset>0x18</addressOffset></register>",
-        "T.ccmr1_output 0x40000018 32 rw 0x00000000\nT.ccmr1_input 0x40000018 32 rw 0x00000000\n",
     ),
     (
         "reserved_fields_left_out",

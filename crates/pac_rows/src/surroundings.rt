@@ -8,7 +8,7 @@ const USAGE: &str =
     "usage: pac list SVD, generate SVD, exec CRATE SCRIPT, run SVD SCRIPT or sample NUMBER COUNT, with --patch P, --strict, --bus zero or memory";
 
 // Words that are those of no command.
-const WORDS: [&[&str]; 26] = [
+const WORDS: [&[&str]; 27] = [
     &[],
     &[""],
     &["--"],
@@ -31,6 +31,7 @@ const WORDS: [&[&str]; 26] = [
     &["sample", "0", "1"],
     &["exec"],
     &["exec", "x.rs"],
+    &["exec", "x.rs", "x.script", "--strict"],
     &["exec", "x.rs", "x.script", "--bus"],
     &["exec", "x.rs", "x.script", "--bus", "device"],
     &["exec", "x.rs", "x.script", "--bus=mem"],
@@ -48,9 +49,10 @@ fn words_of_no_command(rt: HostRuntime) -> Result<(), Fail> {
 }
 
 // Words that name a file, and the name.
-const FILE_WORDS: [(&[&str], &str); 12] = [
+const FILE_WORDS: [(&[&str], &str); 13] = [
     (&["generate", "x.svd"], "cannot read x.svd"),
     (&["list", "x.svd"], "cannot read x.svd"),
+    (&["list", "--strict", "x.svd"], "cannot read x.svd"),
     (&["list", "--", "x.svd"], "cannot read x.svd"),
     (&["list", "--", "--strict"], "cannot read --strict"),
     (&["list", "help"], "cannot read help"),

@@ -13,7 +13,7 @@ use Rattle.clap.specs.Walk.{Names, answers_to, finished, nothing_held, rows_afte
 use Rattle.clap.specs.Simple.{built, entered, label_of, names_of, rows_at}
 use Rattle.pac_words.proofs.Filled.{HavePlaces, given_value, rows_after_full}
 use Rattle.pac_words.specs.Table.{table}
-use Rattle.pac_words.specs.Commands.{NamesBus, bus_of, chosen, command_of, executing, generating, listing, run_of, running, runs_script, source_of, without_fault, told}
+use Rattle.pac_words.specs.Commands.{NamesBus, bus_of, chosen, command_of, executing, generating, is_set, listing, run_of, running, runs_script, source_of, without_fault, told}
 use Rattle.pac_words.specs.declared.command.BusKind.{BusKind}
 use Rattle.pac_words.specs.declared.command.Command.TheVariants.{Executing, Running}
 use Rattle.pac_words.specs.declared.command.Run.{Run}
@@ -119,8 +119,8 @@ bound : {X Y : Type 0} (f : X → Option Y) (o : Option X) → ((x : X) → IsSo
 bound f None all some = absurd (cc some)
 bound f (Some x) all some = all x
 
-abbrev source_named : Text → Source
-source_named svd = record { svd = svd }
+abbrev source_named : List Row → Text → Source
+source_named rows svd = record { svd = svd; strict = is_set (codes "strict") rows }
 
 abbrev run_over : Text → BusKind → Run
 run_over script bus = record { script = script; bus = bus }
@@ -151,7 +151,7 @@ run_tells s words name svd_place svd_demanded script_place script_demanded stric
     let rows = rows_after s.rules [] words in
     let bus : IsSome (bus_of rows) = subst (λ (n : Text). Named n rows) name named in
     let run : IsSome (run_of rows) = run_there rows bus (leaf_value s (codes "script") words script_place script_demanded strict none) in
-    let source : IsSome (source_of rows) = mapped (λ (svd : Text). source_named svd) (first_of (codes "svd") rows) (leaf_value s (codes "svd") words svd_place svd_demanded strict none) in
+    let source : IsSome (source_of rows) = mapped (λ (svd : Text). source_named rows svd) (first_of (codes "svd") rows) (leaf_value s (codes "svd") words svd_place svd_demanded strict none) in
     subst (λ (n : Text). IsSome (told n rows)) (sym name)
     (bound (λ (source : Source). option_map (λ (of : Run). Running source of) (run_of rows)) (source_of rows)
     (λ source. mapped (λ (of : Run). Running source of) (run_of rows) run) source)

@@ -1,5 +1,5 @@
 -- Worked rows: what words ask for, computed.
-use Rattle.std.proofs.Common.{◌≡◌, refl, Option, Some, None, List, [], ◌∷◌, ℕ, codes}
+use Rattle.std.proofs.Common.{◌≡◌, refl, Option, Some, None, List, [], ◌∷◌, ℕ, codes, true, false}
 use Rattle.clap.proofs.OnLiterals.{clap_on_literals}
 use Rattle.pac_words.specs.Commands.{command_of}
 use Rattle.pac_words.specs.declared.command.Command.{Command}
@@ -8,7 +8,10 @@ use Rattle.pac_words.specs.declared.command.BusKind.{BusKind}
 use Rattle.pac_words.specs.declared.command.BusKind.TheVariants.{Zero, Memory}
 
 listing_of : List ℕ → Option Command
-listing_of svd = Some (Listing (record { svd = svd }))
+listing_of svd = Some (Listing (record { svd = svd; strict = false }))
+
+strictly_listing : Option Command
+strictly_listing = Some (Listing (record { svd = codes "x.svd"; strict = true }))
 
 one_file : command_of (codes "list" ∷ codes "x.svd" ∷ []) ≡ listing_of (codes "x.svd")
 unfolding clap_on_literals command_of listing_of
@@ -39,9 +42,30 @@ help_as_command : command_of (codes "help" ∷ []) ≡ None
 unfolding clap_on_literals command_of
 help_as_command = refl
 
-unknown_option : command_of (codes "list" ∷ codes "--strict" ∷ codes "x.svd" ∷ []) ≡ None
+unknown_option : command_of (codes "list" ∷ codes "--loose" ∷ codes "x.svd" ∷ []) ≡ None
 unfolding clap_on_literals command_of
 unknown_option = refl
+
+strict_before : command_of (codes "list" ∷ codes "--strict" ∷ codes "x.svd" ∷ []) ≡ strictly_listing
+unfolding clap_on_literals command_of strictly_listing
+strict_before = refl
+
+strict_behind : command_of (codes "list" ∷ codes "x.svd" ∷ codes "--strict" ∷ []) ≡ strictly_listing
+unfolding clap_on_literals command_of strictly_listing
+strict_behind = refl
+
+strict_twice : command_of (codes "list" ∷ codes "x.svd" ∷ codes "--strict" ∷ codes "--strict" ∷ []) ≡ None
+unfolding clap_on_literals command_of
+strict_twice = refl
+
+-- it takes no value, and each word is whole
+strict_with_a_value : command_of (codes "list" ∷ codes "x.svd" ∷ codes "--strict=true" ∷ []) ≡ None
+unfolding clap_on_literals command_of
+strict_with_a_value = refl
+
+part_of_strict : command_of (codes "list" ∷ codes "x.svd" ∷ codes "--str" ∷ []) ≡ None
+unfolding clap_on_literals command_of
+part_of_strict = refl
 
 missing_file : command_of (codes "list" ∷ []) ≡ None
 unfolding clap_on_literals command_of
@@ -51,11 +75,19 @@ two_files : command_of (codes "list" ∷ codes "x.svd" ∷ codes "y.svd" ∷ [])
 unfolding clap_on_literals command_of
 two_files = refl
 
-generated : command_of (codes "generate" ∷ codes "x.svd" ∷ []) ≡ Some (Generating (record { svd = codes "x.svd" }))
+generated : command_of (codes "generate" ∷ codes "x.svd" ∷ []) ≡ Some (Generating (record { svd = codes "x.svd"; strict = false }))
 unfolding clap_on_literals command_of
 generated = refl
 
+generated_strictly : command_of (codes "generate" ∷ codes "x.svd" ∷ codes "--strict" ∷ []) ≡ Some (Generating (record { svd = codes "x.svd"; strict = true }))
+unfolding clap_on_literals command_of
+generated_strictly = refl
+
 -- ---- `exec`
+
+strict_on_a_crate_text : command_of (codes "exec" ∷ codes "x.rs" ∷ codes "y" ∷ codes "--strict" ∷ []) ≡ None
+unfolding clap_on_literals command_of
+strict_on_a_crate_text = refl
 
 executing_of : BusKind → Option Command
 executing_of bus = Some (Executing (codes "x.rs") (record { script = codes "y"; bus = bus }))
@@ -103,9 +135,13 @@ a_bus_that_lists = refl
 
 -- ---- `run`
 
-run_over_memory : command_of (codes "run" ∷ codes "x.svd" ∷ codes "--bus" ∷ codes "memory" ∷ codes "y" ∷ []) ≡ Some (Running (record { svd = codes "x.svd" }) (record { script = codes "y"; bus = Memory }))
+run_over_memory : command_of (codes "run" ∷ codes "x.svd" ∷ codes "--bus" ∷ codes "memory" ∷ codes "y" ∷ []) ≡ Some (Running (record { svd = codes "x.svd"; strict = false }) (record { script = codes "y"; bus = Memory }))
 unfolding clap_on_literals command_of
 run_over_memory = refl
+
+run_strictly : command_of (codes "run" ∷ codes "x.svd" ∷ codes "y" ∷ codes "--strict" ∷ []) ≡ Some (Running (record { svd = codes "x.svd"; strict = true }) (record { script = codes "y"; bus = Zero }))
+unfolding clap_on_literals command_of
+run_strictly = refl
 
 run_without_script : command_of (codes "run" ∷ codes "x.svd" ∷ []) ≡ None
 unfolding clap_on_literals command_of

@@ -1,5 +1,5 @@
 -- What the words after the program's name ask for: `clap`'s definition over the command table. This project's own command line.
-use Rattle.std.specs.Prelude.{List, [], ◌∷◌, Bool, true, not, ◌||◌, Option, Some, None, IsTrue, codes, if◌then◌else◌, is_some, option_map, option_and_then}
+use Rattle.std.specs.Prelude.{List, [], ◌∷◌, Bool, true, false, not, ◌||◌, Option, Some, None, IsTrue, codes, if◌then◌else◌, is_some, option_map, option_and_then}
 use Rattle.std.specs.Option.{option_map_or}
 use Rattle.std.specs.Str.{bytes_eq}
 use Rattle.clap.specs.Words.{Kinds, Row, Text, fault_of, first_of, subcommand_of}
@@ -11,9 +11,13 @@ use Rattle.pac_words.specs.declared.command.BusKind.TheVariants.{Zero, Memory}
 use Rattle.pac_words.specs.declared.command.Run.{Run}
 use Rattle.pac_words.specs.declared.command.Source.{Source}
 
--- the files that a description comes from, by what was found for the arguments
+-- an option without a value is given
+abbrev pub is_set : Text → List Row → Bool
+is_set id rows = option_map_or (λ word. bytes_eq word (codes "true")) (first_of id rows) false
+
+-- the description, by what was found for the arguments
 abbrev pub source_of : List Row → Option Source
-source_of rows = option_map (λ svd. record { svd = svd }) (first_of (codes "svd") rows)
+source_of rows = option_map (λ svd. record { svd = svd; strict = is_set (codes "strict") rows }) (first_of (codes "svd") rows)
 
 abbrev pub listing : List Row → Option Command
 listing rows = option_map Listing (source_of rows)

@@ -2,6 +2,7 @@
 use Rattle.std.specs.Prelude.{List, [], ◌∷◌, ◌++◌, Some, true, false, codes}
 use Rattle.clap.specs.Words.{App, Rule, Shape, Text, new_rule}
 use Rattle.clap.specs.Simple.{new_shape}
+use Rattle.clap.specs.declared.builder.action.ArgAction.TheVariants.{SetTrue}
 
 -- a file, which has to be named
 abbrev pub file : Text → Rule
@@ -11,21 +12,33 @@ file id = record (new_rule id) { required = true }
 abbrev pub option : Text → Rule
 option id = record (new_rule id) { long = Some id }
 
+-- an option without a value
+abbrev pub flag : Text → Rule
+flag id = record (new_rule id) { long = Some id; action = Some SetTrue }
+
 -- a command of this name, with these arguments
 abbrev pub command : Text → List Rule → Shape
 command name rules = record (new_shape name) { rules = rules }
 
+-- the arguments that tell of a description: its file, and whether overlaps are refused
+abbrev pub source : List Rule
+source = file (codes "svd") ∷ flag (codes "strict") ∷ []
+
+-- a command over a description
+abbrev pub described : Text → App
+described name = record { top = command name source; subs = [] }
+
 abbrev pub list : Shape
-list = command (codes "list") (file (codes "svd") ∷ [])
+list = command (codes "list") source
 
 abbrev pub generate : Shape
-generate = command (codes "generate") (file (codes "svd") ∷ [])
+generate = command (codes "generate") source
 
 abbrev pub exec : Shape
 exec = command (codes "exec") (file (codes "crate") ∷ file (codes "script") ∷ option (codes "bus") ∷ [])
 
 abbrev pub run : Shape
-run = command (codes "run") (file (codes "svd") ∷ file (codes "script") ∷ option (codes "bus") ∷ [])
+run = command (codes "run") (source ++ file (codes "script") ∷ option (codes "bus") ∷ [])
 
 -- one of these commands has to be chosen, and no word asks for help
 abbrev pub commands : List Shape → App

@@ -1,6 +1,6 @@
 ghost use Rattle.std.specs.Prelude.{◌≡◌, IfOk, map};
 ghost use Rattle.clap.specs.Words.{first_of, found_of, rows_of};
-ghost use Rattle.pac_words.specs.Commands.{bus_of, command_of, executing, generating, kind_of, listing, run_of, running, source_of, told};
+ghost use Rattle.pac_words.specs.Commands.{bus_of, command_of, executing, generating, is_set, kind_of, listing, run_of, running, source_of, told};
 
 use crate::table::table;
 use clap::ArgMatches;
@@ -37,11 +37,13 @@ pub enum Command {
     },
 }
 
-/// The files that a description comes from.
+/// The files that a description comes from, and how it is checked.
 #[derive(Drop)]
 pub struct Source {
     /// The name of the description's file, as the words have it.
     pub svd: Text,
+    /// Whether overlaps are refused.
+    pub strict: bool,
 }
 
 /// A script, and over which bus it runs.
@@ -189,8 +191,21 @@ fn source_of(alloc: Global, matches: &ArgMatches<'_>) -> Result<Option<Source>, 
     ensures { IfOk result (λ found. found ≡ source_of (rows_of (found_of matches.now))) }
 {
     match value(alloc, matches, "svd")? {
-        Some(svd) => Ok(Some(Source { svd })),
+        Some(svd) => Ok(Some(Source {
+            svd,
+            strict: is_set(matches, "strict"),
+        })),
         None => Ok(None),
+    }
+}
+
+/// Whether an option without a value is given.
+fn is_set(matches: &ArgMatches<'_>, id: &str) -> bool
+    ensures { result ≡ is_set id.now (rows_of (found_of matches.now)) }
+{
+    match matches.get_str(id) {
+        Some(word) => word == "true",
+        None => false,
     }
 }
 

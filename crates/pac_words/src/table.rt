@@ -1,9 +1,9 @@
 ghost use Rattle.std.specs.Prelude.{◌≡◌, IfOk, false};
 ghost use Rattle.clap.specs.Words.{app_of, rule_of, shape_of};
 ghost use Rattle.clap.specs.declared.builder.command.Command.TheViews.{out-Command as fields_of};
-ghost use Rattle.pac_words.specs.Table.{commands, exec, file, generate, list, option, printing, run, table};
+ghost use Rattle.pac_words.specs.Table.{commands, described, exec, file, flag, generate, list, option, printing, run, table};
 
-use clap::{Arg, Command};
+use clap::{Arg, ArgAction, Command};
 use std::alloc::{AllocError, Global};
 
 /// A file, which has to be named.
@@ -22,16 +22,33 @@ fn option<'a>(alloc: Global, id: &'a str) -> Arg<'a>
     Arg::new(alloc, id).long(id)
 }
 
+/// An option without a value.
+fn flag<'a>(alloc: Global, id: &'a str) -> Arg<'a>
+    ensures rule { rule_of result ≡ flag id.entry.now }
+    ensures local { result.global ≡ false }
+{
+    Arg::new(alloc, id).long(id).action(ArgAction::SetTrue)
+}
+
+/// A command over a description.
+fn described<'a>(alloc: Global, name: &'a str) -> Result<Command<'a>, AllocError>
+    ensures { IfOk result (λ command. (app_of command ≡ described name.entry.now) × ((fields_of command).has_globals ≡ false)) }
+{
+    Command::new(alloc, name)
+        .arg(file(alloc, "svd"))?
+        .arg(flag(alloc, "strict"))
+}
+
 fn list<'a>(alloc: Global) -> Result<Command<'a>, AllocError>
     ensures { IfOk result (λ command. (shape_of command ≡ list) × ((fields_of command).has_globals ≡ false)) }
 {
-    Command::new(alloc, "list").arg(file(alloc, "svd"))
+    described(alloc, "list")
 }
 
 fn generate<'a>(alloc: Global) -> Result<Command<'a>, AllocError>
     ensures { IfOk result (λ command. (shape_of command ≡ generate) × ((fields_of command).has_globals ≡ false)) }
 {
-    Command::new(alloc, "generate").arg(file(alloc, "svd"))
+    described(alloc, "generate")
 }
 
 fn exec<'a>(alloc: Global) -> Result<Command<'a>, AllocError>
@@ -46,8 +63,7 @@ fn exec<'a>(alloc: Global) -> Result<Command<'a>, AllocError>
 fn run<'a>(alloc: Global) -> Result<Command<'a>, AllocError>
     ensures { IfOk result (λ command. (shape_of command ≡ run) × ((fields_of command).has_globals ≡ false)) }
 {
-    Command::new(alloc, "run")
-        .arg(file(alloc, "svd"))?
+    described(alloc, "run")?
         .arg(file(alloc, "script"))?
         .arg(option(alloc, "bus"))
 }
