@@ -15,7 +15,7 @@ use Rattle.frag_sem.specs.TextSurface.{text_surface}
 use Rattle.frag_tree.specs.declared.event.Event.{Event}
 use Rattle.frag_tree.specs.declared.script.Script.{Script}
 use Rattle.pac_bus.specs.Acts.{Act}
-use Rattle.pac_cli.specs.Answers.{Cause, Plan, Answer, refused, does, generated, listed, no_crate_text, scripted, table_plan, text_plan, AnswersOnCrate, AnswersOnRows, AnswersScript, AnswersText, Decides, DecidesOn, DecidesRun, DecidesSource, DecidesText, AnswersAsked, AnswersCommand, AnswersWithout, IsAnswer}
+use Rattle.pac_cli.specs.Answers.{Cause, Plan, Answer, refused, does, generated, listed, scripted, table_plan, text_plan, AnswersOnCrate, AnswersOnRows, AnswersScript, Decides, DecidesOn, DecidesRun, DecidesSource, DecidesText, AnswersAsked, AnswersCommand, AnswersWithout, IsAnswer}
 use Rattle.pac_cli.specs.Buses.{bus_of, kinds_of, missing_kind}
 use Rattle.pac_cli.specs.Scripts.{CrateReading, untyped, typed}
 use Rattle.pac_inputs.specs.Gathering.{FileMap, Gathering, inputs_are, is_too_long, Gathered, gathered_from}

@@ -1,18 +1,17 @@
 -- A crate text comes to one crate or one refusal at most, and a script to one list of statements or one refusal.
-use Rattle.std.proofs.Common.{ℕ, suc, ◌≡◌, ◌≤◌, ◌<◌, ◌+◌, Bool, true, false, List, [], ◌∷◌, ◌++◌, length, Option, Some, None, refl, sym, ap, ◌∙◌, subst, arith}
+use Rattle.std.proofs.Common.{ℕ, suc, ◌≡◌, ◌+◌, true, false, List, [], ◌∷◌, ◌++◌, length, Some, None, refl, sym, ap, ◌∙◌, subst, arith}
 use Rattle.frag_parse.specs.Nesting.{crate_within}
 use Rattle.frag_parse.specs.Parsing.{DeepCrate, IsCrateOf}
 use Rattle.frag_script.proofs.ScriptAgain.{one_script}
 use Rattle.frag_script.specs.ScriptLines.{AllGood, IsFirstBad, IsGood, IsTooLong, SpellsLines, SpellsScript, lines_of}
 use Rattle.frag_sem.proofs.Rules.{fits_by_tests, refused_by_tests}
-use Rattle.frag_sem.specs.AddressEnds.{all_tests}
-use Rattle.frag_sem.specs.CrateTyping.{CrateFits, IsTypingFault, TypingKind, first_failed}
+use Rattle.frag_sem.specs.CrateTyping.{CrateFits, IsTypingFault, TypingKind}
 use Rattle.frag_tree.proofs.CrateProductions.{one_crate}
 use Rattle.frag_tree.proofs.Fine.{printed_words}
 use Rattle.frag_tree.specs.Trees.{CrateTree}
 use Rattle.frag_tree.specs.declared.script.Script.{Script}
 use Rattle.frag_tree.specs.declared.script.ScriptLine.{ScriptLine}
-use Rattle.pac_cli.specs.Scripts.{no_crate, modules_too_deep, misfits, Untyped, CrateReading, untyped, typed, IsTreeOf, Misfits, FitsAs, CrateReadAs, no_statement, too_many_statements, mistyped, Unscripted, ScriptReading, unread, spelled, IsScriptOf, ScriptReadAs}
+use Rattle.pac_cli.specs.Scripts.{no_crate, modules_too_deep, misfits, CrateReading, untyped, typed, IsTreeOf, Misfits, FitsAs, CrateReadAs, no_statement, too_many_statements, mistyped, ScriptReading, unread, spelled, IsScriptOf, ScriptReadAs}
 
 -- ---- crate texts
 

@@ -1,6 +1,6 @@
 -- No command with inputs is refused for its words.
 use Rattle.std.proofs.Common.{ℕ, ◌≡◌, List, [], ◌∷◌, Option, Some, None, refl}
-use Rattle.pac_cli.specs.Answers.{Answer, AnswersAsked, AnswersOnCrate, AnswersOnRows, AnswersScript, AnswersWithout, Decides, DecidesOn, DecidesRun, DecidesSource, DecidesText, IsAnswer, Plan, generated, listed, no_command, refused, scripted, table_plan, text_plan, unless_mistyped}
+use Rattle.pac_cli.specs.Answers.{Answer, AnswersAsked, AnswersOnCrate, AnswersOnRows, AnswersWithout, Decides, DecidesOn, DecidesRun, DecidesSource, DecidesText, IsAnswer, Plan, generated, listed, no_command, refused, scripted, table_plan, text_plan, unless_mistyped}
 use Rattle.pac_cli.specs.Buses.{bus_of, missing_kind}
 use Rattle.frag_sem.specs.ScriptTyping.{LineFault, script_fault}
 use Rattle.frag_sem.specs.Surfaces.{Surface}

@@ -1,13 +1,11 @@
 -- Crate texts and scripts: from what their readers and typing answer to what they come to, and from a run to what was done.
-use Rattle.std.proofs.Common.{ℕ, ◌≡◌, ◌≤◌, true, List, [], ◌∷◌, ◌++◌, All, length, slice_index_or, Option, Some, None, Result, refl, sym, ap, ap₂, ◌∙◌, subst, inl, inr, arith}
+use Rattle.std.proofs.Common.{ℕ, ◌≡◌, List, [], ◌∷◌, ◌++◌, All, length, slice_index_or, Option, Some, Result, refl, sym, ap, ap₂, ◌∙◌, subst, inl, inr, arith}
 use Rattle.std.proofs.lemmas.List.Elements.{All-cons, All-nil}
-use Rattle.std.specs.Io.KnownBytes.{Appends}
 use Rattle.std.specs.List.{AllByRecursion}
-use Rattle.frag_eval.specs.Prefixes.{IsAccess, IsAll, acts_of, reads_in}
+use Rattle.frag_eval.specs.Prefixes.{IsAll, acts_of, reads_in}
 use Rattle.frag_eval.specs.Preparing.{Prepared, Refused, set_by_all}
-use Rattle.frag_eval.specs.Runs.{Broke, Ran, Readied, Stopped}
-use Rattle.frag_parse.specs.Nesting.{crate_within}
-use Rattle.frag_parse.specs.Parsing.{IsCrateOf, RefusedFor as CrateRefusedFor}
+use Rattle.frag_eval.specs.Runs.{Ran, Readied, Stopped}
+use Rattle.frag_parse.specs.Parsing.{RefusedFor as CrateRefusedFor}
 use Rattle.frag_parse.specs.declared.fault.ParseFault.{ParseFault}
 use Rattle.frag_parse.specs.declared.fault.ParseFault.TheVariants as parse
 use Rattle.frag_script.specs.ScriptLines.{RefusedFor as ScriptRefusedFor}
@@ -30,7 +28,7 @@ use Rattle.frag_types.specs.declared.fault.CrateFault.{CrateFault}
 use Rattle.frag_types.specs.declared.fault.CrateFault.TheVariants as krate
 use Rattle.pac_bus.proofs.Acting.{did_then}
 use Rattle.pac_bus.specs.EventTexts.{HoldsWord, event_text}
-use Rattle.pac_bus.specs.Telling.{BusTold, Did}
+use Rattle.pac_bus.specs.Telling.{BusTold}
 use Rattle.pac_io.proofs.WrittenUpTo.{none_written}
 use Rattle.pac_fault.specs.Classes.{Class, no_memory, bad_words, bad_read, bad_write, bad_bus, long_file, bad_input, class_of}
 use Rattle.pac_fault.specs.Layers.{of_parsing, of_script, of_typing}
@@ -46,12 +44,11 @@ use Rattle.frag_emit.specs.Standing.{StandsFor}
 use Rattle.svd_model.specs.Keys.{Key}
 use Rattle.svd_model.specs.Steps.{Step}
 use Rattle.svd_rows.specs.Rows.{Row}
-use Rattle.table_sem.specs.TableSurface.{table_surface}
 use Rattle.overlap_check.specs.declared.fault.Policy.{Policy}
 use Rattle.pac_cli.specs.Resolving.{ComeTo, SourceBytes, bytes_of, policy_of, Unresolved, stopped, resolved}
 use Rattle.pac_cli.proofs.OneReading.{no_fault}
 use Rattle.pac_cli.specs.Scripts.{no_crate, modules_too_deep, misfits, untyped, typed, CrateReadAs, IsTreeOf, no_statement, too_many_statements, mistyped, Unscripted, unread, spelled, ScriptReadAs}
-use Rattle.pac_cli.specs.Stages.{Does, DoesNot, HasWrittenPart, IsScriptFor, IsUnfit, MakesAll, MakesFirst, MakesNone, MakesSome, ScriptsNot, TypesNot, acts_in}
+use Rattle.pac_cli.specs.Stages.{Does, DoesNot, IsScriptFor, IsUnfit, MakesAll, MakesFirst, ScriptsNot, TypesNot}
 use Rattle.pac_cli.specs.Worlds.{Desk, Paper, desk}
 use Rattle.pac_cli.proofs.Doing.{nothing_done}
 

@@ -1,12 +1,12 @@
 -- The lent buses, and the first of a kind among them.
-use Rattle.std.proofs.Common.{ℕ, ◌≡◌, ◌+◌, ◌<◌, ◌≤◌, Bool, true, false, List, map, length, nat_lt, slice_index_or, slice_set, Option, Some, None, option_map, if◌then◌else◌, refl, sym, ap, ◌∙◌, subst, inl, inr, arith}
+use Rattle.std.proofs.Common.{ℕ, ◌≡◌, ◌+◌, ◌<◌, ◌≤◌, Bool, true, false, List, length, nat_lt, slice_index_or, slice_set, Option, Some, None, option_map, if◌then◌else◌, refl, sym, ap, ◌∙◌, subst, inl, inr, arith}
 use Rattle.std.proofs.lemmas.Bool.Decides.{nat_tests}
 use Rattle.std.proofs.lemmas.List.{get_or-map, get_or-set_same, length-map, length-set, map-set, set-get_or}
 use Rattle.std.proofs.lemmas.List.Sums.{passes_at_first, position_or_len_is}
 use Rattle.std.proofs.lemmas.Option.{slice_get-get_or}
 use Rattle.std.specs.List.{slice_get}
 use Rattle.pac_bus.specs.Telling.{BusTold}
-use Rattle.pac_cli.specs.Buses.{Slot, is_lent, kinds_of, lent_for, missing_kind, place_in, same_kind, slots_of, OneChanges, OthersStay}
+use Rattle.pac_cli.specs.Buses.{Slot, is_lent, kinds_of, lent_for, missing_kind, place_in, same_kind, slots_of, OthersStay}
 use Rattle.pac_cli.specs.declared.slot.BusSlot.{BusSlot}
 use Rattle.pac_words.specs.declared.command.BusKind.{BusKind}
 use Rattle.pac_words.specs.declared.command.BusKind.TheVariants as bus

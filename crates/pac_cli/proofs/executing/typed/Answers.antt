@@ -1,6 +1,6 @@
-use Rattle.std.proofs.Common.{ap, refl, subst, sym}
+use Rattle.std.proofs.Common.{subst, sym}
 use Rattle.std.proofs.lemmas.Result.{err_from_is_err_and}
-use Rattle.frag_tree.specs.Trees.{CrateTree, crate_tree}
+use Rattle.frag_tree.specs.Trees.{crate_tree}
 use Rattle.frag_tree.specs.declared.krate.Crate.{Crate}
 use Rattle.pac_fault.specs.Classes.{class_of}
 use Rattle.pac_fault.specs.declared.fault.PacFault.{PacFault}

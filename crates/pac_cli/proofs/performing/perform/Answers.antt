@@ -1,8 +1,6 @@
-use Rattle.std.proofs.Common.{◌≡◌, ◌∷◌, [], List, None, ap, ap₂, sym, ◌∙◌, subst, arith, length}
-use Rattle.pac_bus.specs.Telling.{BusTold}
+use Rattle.std.proofs.Common.{◌≡◌, ◌∷◌, [], List, None, ap, ap₂, sym, ◌∙◌, subst, arith}
 use Rattle.pac_cli.specs.Buses.{bus_of, kinds_of, missing_kind, place_in, slots_of}
 use Rattle.pac_cli.specs.Worlds.{paper}
-use Rattle.pac_cli.specs.declared.slot.BusSlot.{BusSlot}
 use Rattle.pac_cli.proofs.Scripts.{executed, has_run, others_executed, others_run, two_inputs}
 use Rattle.pac_cli.proofs.Slots.{others_stay, told_after, told_before}
 use Rattle.pac_words.specs.declared.command.Command.{Command}

@@ -3,7 +3,6 @@ use Rattle.std.proofs.lemmas.Result.{err_from_is_err_and}
 use Rattle.frag_sem.specs.TextSurface.{text_surface}
 use Rattle.frag_tree.specs.Trees.{crate_tree}
 use Rattle.pac_cli.specs.Answers.{AnswersRun, AnswersScript, text_plan}
-use Rattle.pac_cli.specs.Resolving.{stopped}
 use Rattle.pac_cli.specs.Worlds.{desk, paper}
 use Rattle.pac_cli.proofs.Doing.{does_otherwise, lacks_memory, stopped_by}
 use Rattle.pac_cli.proofs.Scripts.{answers_run, stops_run}

@@ -1,6 +1,5 @@
-use Rattle.std.proofs.Common.{◌∙◌, ap, refl, subst, sym}
+use Rattle.std.proofs.Common.{subst, sym}
 use Rattle.std.proofs.lemmas.Result.{err_from_is_err_and}
-use Rattle.frag_sem.specs.ScriptTyping.{script_fault}
 use Rattle.frag_sem.specs.TextSurface.{text_surface}
 use Rattle.frag_tree.specs.Trees.{crate_tree}
 use Rattle.frag_tree.specs.declared.script.Script.{Script}

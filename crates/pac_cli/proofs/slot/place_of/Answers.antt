@@ -1,4 +1,4 @@
-use Rattle.std.proofs.Common.{ℕ, ◌+◌, ◌<◌, length, ap, sym, ◌∙◌, subst, arith}
+use Rattle.std.proofs.Common.{ℕ, ◌+◌, ◌<◌, ap, sym, ◌∙◌, subst, arith}
 use Rattle.pac_cli.specs.Buses.{kinds_of, same_kind, slots_of}
 use Rattle.pac_cli.proofs.Slots.{kind_at, kinds_count, none_more, place_found, place_missed}
 use Rattle.pac_words.specs.declared.command.BusKind.{BusKind}
