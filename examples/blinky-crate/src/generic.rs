@@ -1,1 +1,0 @@
-../../../support/generic.rs
