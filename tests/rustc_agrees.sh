@@ -6,14 +6,14 @@
 #
 #     tests/rustc_agrees.sh random COUNT [SEED]
 #
-# does the same with so many descriptions and scripts made at random. With PAC_COMMANDS="exec run", or one of them, that command
-# must print the same events.
+# does the same with so many descriptions and scripts made at random. Where the program is built, `exec` and `run` must print the
+# same events; PAC_COMMANDS says which of the two are asked.
 top="$(cd "$(dirname "$0")/.." && pwd)" || exit 1
 program="$top/crates/pac_main/out/pac_main"
 export PYTHONDONTWRITEBYTECODE=1
 agree=(python3 "$top/tests/witness/agree.py")
 [ -x "$program" ] && agree+=(--program "$program")
-for command in $PAC_COMMANDS; do
+for command in ${PAC_COMMANDS-exec run}; do
     agree+=(--command "$command")
 done
 
