@@ -12,3 +12,7 @@ mod events;
 mod identifiers;
 #[cfg(test)]
 mod scripts;
+#[cfg(test)]
+mod texts;
+#[cfg(test)]
+mod typing;
