@@ -11,6 +11,8 @@ mod events;
 #[cfg(test)]
 mod identifiers;
 #[cfg(test)]
+mod running;
+#[cfg(test)]
 mod scripts;
 #[cfg(test)]
 mod texts;

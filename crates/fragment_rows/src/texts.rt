@@ -117,6 +117,74 @@ pub mod d {
 }
 ";
 
+/// A text of version 1 that fits, with registers of all four widths over the same bytes.
+pub(crate) const OVERLAID: &str = "use crate::generic::*;
+pub struct Peripherals {
+    pub T: Periph<t::RegisterBlock, 0x40000000>,
+}
+pub mod t {
+    use crate::generic::*;
+    #[repr(C)]
+    pub struct RegisterBlock {
+        a: Reg<a::Spec>,
+    }
+    impl RegisterBlock {
+        pub fn a(&self) -> &Reg<a::Spec> { &self.a }
+        pub fn b(&self) -> &Reg<b::Spec> { at(self, 0x0) }
+        pub fn h(&self) -> &Reg<h::Spec> { at(self, 0x2) }
+        pub fn q(&self) -> &Reg<q::Spec> { at(self, 0x0) }
+    }
+    pub mod a {
+        use crate::generic::*;
+        pub struct Spec;
+        impl RegisterSpec for Spec { type Ux = u32; }
+        impl Readable for Spec {}
+        impl Writable for Spec { const ZERO_TO_MODIFY: u32 = 0x0; const ONE_TO_MODIFY: u32 = 0x0; }
+        impl Resettable for Spec { const RESET_VALUE: u32 = 0x11223344; }
+        impl R<Spec> {
+        }
+        impl W<Spec> {
+        }
+    }
+    pub mod b {
+        use crate::generic::*;
+        pub struct Spec;
+        impl RegisterSpec for Spec { type Ux = u8; }
+        impl Readable for Spec {}
+        impl Writable for Spec { const ZERO_TO_MODIFY: u8 = 0x0; const ONE_TO_MODIFY: u8 = 0x0; }
+        impl Resettable for Spec { const RESET_VALUE: u8 = 0xff; }
+        impl R<Spec> {
+        }
+        impl W<Spec> {
+        }
+    }
+    pub mod h {
+        use crate::generic::*;
+        pub struct Spec;
+        impl RegisterSpec for Spec { type Ux = u16; }
+        impl Readable for Spec {}
+        impl Writable for Spec { const ZERO_TO_MODIFY: u16 = 0x0; const ONE_TO_MODIFY: u16 = 0x0; }
+        impl Resettable for Spec { const RESET_VALUE: u16 = 0x7788; }
+        impl R<Spec> {
+        }
+        impl W<Spec> {
+        }
+    }
+    pub mod q {
+        use crate::generic::*;
+        pub struct Spec;
+        impl RegisterSpec for Spec { type Ux = u64; }
+        impl Readable for Spec {}
+        impl Writable for Spec { const ZERO_TO_MODIFY: u64 = 0x0; const ONE_TO_MODIFY: u64 = 0x0; }
+        impl Resettable for Spec { const RESET_VALUE: u64 = 0x102030405060708; }
+        impl R<Spec> {
+        }
+        impl W<Spec> {
+        }
+    }
+}
+";
+
 /// The crate of a text, where it fits. A text of no crate is answered with `Syntax`.
 pub(crate) fn typed(alloc: Global, text: &str) -> Result<TypedCrate, CrateFault> {
     let krate = match parse_crate(alloc, text.as_bytes()) {

@@ -6,7 +6,7 @@ use std::test::Fail;
 
 // What is put in the place of what, once in the text of version 1, with the kind of the fault and what begins
 // the item at fault.
-const BREAKS: [(&str, &str, CrateTyping, &str); 56] = [
+const NAMES: [(&str, &str, CrateTyping, &str); 10] = [
     // names: of slots, modules, struct fields, accessors, markers, readers, writers, and of the calls of one type
     (
         "pub S: ",
@@ -64,6 +64,9 @@ const BREAKS: [(&str, &str, CrateTyping, &str); 56] = [
         CrateTyping::DoubleName,
         "pub S: Periph<t::RegisterBlock, 0x4",
     ),
+];
+
+const MODULES: [(&str, &str, CrateTyping, &str); 6] = [
     // modules: of slots, fields and accessors
     (
         "S: Periph<t::",
@@ -96,6 +99,9 @@ const BREAKS: [(&str, &str, CrateTyping, &str); 56] = [
         CrateTyping::UnknownName,
         "pub fn x(",
     ),
+];
+
+const BODIES: [(&str, &str, CrateTyping, &str); 10] = [
     // bodies of accessors
     (
         "&self.a }",
@@ -153,6 +159,9 @@ const BREAKS: [(&str, &str, CrateTyping, &str); 56] = [
         CrateTyping::LiteralRange,
         "pub fn y(",
     ),
+];
+
+const READERS: [(&str, &str, CrateTyping, &str); 9] = [
     // constants
     (
         "RESET_VALUE: u8",
@@ -209,6 +218,9 @@ const BREAKS: [(&str, &str, CrateTyping, &str); 56] = [
         CrateTyping::UnknownName,
         "pub fn m(&self",
     ),
+];
+
+const WRITERS: [(&str, &str, CrateTyping, &str); 10] = [
     // writers
     (
         "-> BitWriter<'_, Spec, E_F>",
@@ -271,6 +283,9 @@ const BREAKS: [(&str, &str, CrateTyping, &str); 56] = [
         CrateTyping::UnknownName,
         "impl<'a> BitWriter1C<",
     ),
+];
+
+const CALLS: [(&str, &str, CrateTyping, &str); 11] = [
     // names of the prelude
     (
         "pub fn x(",
@@ -343,7 +358,7 @@ const BREAKS: [(&str, &str, CrateTyping, &str); 56] = [
 ];
 
 // The same of the text of version 2.
-const BREAKS_INDEXED: [(&str, &str, CrateTyping, &str); 11] = [
+const INDEXED: [(&str, &str, CrateTyping, &str); 11] = [
     // counts
     (
         "at_bit(0, 4, 8, n)) &",
@@ -456,8 +471,8 @@ fn breaks(alloc: Global, text: &str, kind: CrateTyping, item: &str) -> bool {
 }
 
 #[test]
-fn each_rule_with_its_item(rt: HostRuntime) -> Result<(), Fail> {
-    for (old, new, kind, item) in BREAKS {
+fn distinct_names(rt: HostRuntime) -> Result<(), Fail> {
+    for (old, new, kind, item) in NAMES {
         let text = edited(rt.alloc(), VALUED, old, new)?;
         assert!(rt; breaks(rt.alloc(), text.as_str(), kind, item), "{new}");
     }
@@ -465,8 +480,53 @@ fn each_rule_with_its_item(rt: HostRuntime) -> Result<(), Fail> {
 }
 
 #[test]
-fn each_rule_of_indexed_calls(rt: HostRuntime) -> Result<(), Fail> {
-    for (old, new, kind, item) in BREAKS_INDEXED {
+fn named_modules(rt: HostRuntime) -> Result<(), Fail> {
+    for (old, new, kind, item) in MODULES {
+        let text = edited(rt.alloc(), VALUED, old, new)?;
+        assert!(rt; breaks(rt.alloc(), text.as_str(), kind, item), "{new}");
+    }
+    Ok(())
+}
+
+#[test]
+fn bodies_and_counts(rt: HostRuntime) -> Result<(), Fail> {
+    for (old, new, kind, item) in BODIES {
+        let text = edited(rt.alloc(), VALUED, old, new)?;
+        assert!(rt; breaks(rt.alloc(), text.as_str(), kind, item), "{new}");
+    }
+    Ok(())
+}
+
+#[test]
+fn constants_and_readers(rt: HostRuntime) -> Result<(), Fail> {
+    for (old, new, kind, item) in READERS {
+        let text = edited(rt.alloc(), VALUED, old, new)?;
+        assert!(rt; breaks(rt.alloc(), text.as_str(), kind, item), "{new}");
+    }
+    Ok(())
+}
+
+#[test]
+fn writers_and_values(rt: HostRuntime) -> Result<(), Fail> {
+    for (old, new, kind, item) in WRITERS {
+        let text = edited(rt.alloc(), VALUED, old, new)?;
+        assert!(rt; breaks(rt.alloc(), text.as_str(), kind, item), "{new}");
+    }
+    Ok(())
+}
+
+#[test]
+fn calls_directions_and_ends(rt: HostRuntime) -> Result<(), Fail> {
+    for (old, new, kind, item) in CALLS {
+        let text = edited(rt.alloc(), VALUED, old, new)?;
+        assert!(rt; breaks(rt.alloc(), text.as_str(), kind, item), "{new}");
+    }
+    Ok(())
+}
+
+#[test]
+fn indexed_calls(rt: HostRuntime) -> Result<(), Fail> {
+    for (old, new, kind, item) in INDEXED {
         let text = edited(rt.alloc(), CHANNELS, old, new)?;
         assert!(rt; breaks(rt.alloc(), text.as_str(), kind, item), "{new}");
     }
@@ -656,7 +716,7 @@ fn each_fault_of_a_script(rt: HostRuntime) -> Result<(), Fail> {
 }
 
 #[test]
-fn indexes_of_calls(rt: HostRuntime) -> Result<(), Fail> {
+fn indexes_in_a_script(rt: HostRuntime) -> Result<(), Fail> {
     let krate = typed(rt.alloc(), CHANNELS)?;
     let last = "D.en().write(|w| w.ch(7).set_bit().lv(3).bits(3));";
     assert!(rt; typed_script(rt.alloc(), &krate, last).is_ok());
