@@ -4,7 +4,7 @@ ghost use Rattle.frag_sem.specs.TextSurface.{text_surface};
 ghost use Rattle.frag_tree.specs.Trees.{crate_tree};
 
 use crate::crate_text::EXAMPLE;
-use crate::texts::{CHANNELS, OVERLAID, typed, typed_script};
+use crate::texts::{CHANNELS, OVERLAID, of_version_two, typed, typed_script, worked_array};
 use frag_eval::{BusFault, Ready, Role, Running, Stage, begin, prepare, run, step};
 use frag_tree::{Event, Events, Said};
 use frag_types::{TypedCrate, TypedScript};
@@ -202,6 +202,31 @@ fn events_of_scripts(rt: HostRuntime) -> Result<(), Fail> {
 }
 
 #[test]
+fn version_two_keeps_the_events(rt: HostRuntime) -> Result<(), Fail> {
+    let text = of_version_two(rt.alloc(), EXAMPLE)?;
+    let krate = typed(rt.alloc(), text.as_str())?;
+    for (script, rows) in RUNS {
+        let mut bus = MemBus::new(rt.alloc());
+        assert!(rt;
+            gives(rt.alloc(), &krate, script, &mut bus, rows)?,
+            "{script}"
+        );
+    }
+    Ok(())
+}
+
+#[test]
+fn an_array_in_the_worked_text(rt: HostRuntime) -> Result<(), Fail> {
+    let text = worked_array(rt.alloc(), "8")?;
+    let krate = typed(rt.alloc(), text.as_str())?;
+    let script = "T.sr().write(|w| w.f1(2).set_bit());";
+    let rows = [Row::Write(0x4000_0000, 32, 0x202)];
+    let mut bus = ZeroBus::new(rt.alloc());
+    assert!(rt; gives(rt.alloc(), &krate, script, &mut bus, rows.as_slice())?);
+    Ok(())
+}
+
+#[test]
 fn events_of_indexed_calls(rt: HostRuntime) -> Result<(), Fail> {
     let krate = typed(rt.alloc(), CHANNELS)?;
     for (script, rows) in INDEXED_RUNS {
@@ -345,7 +370,7 @@ fn refused<B: Bus>(running: Running, bus: &mut B) -> Result<Option<Running>, NoM
     }
 }
 
-// Whether the second access fails, leaves the run before its write, and can then be made.
+// Whether the second access fails twice, leaves the run before its write, and can then be made.
 fn goes_on<B: Bus>(ready: Ready, bus: &mut B) -> Result<bool, NoMemory> {
     let Stage::Running(first) = begin(ready) else {
         return Ok(false);
@@ -353,7 +378,10 @@ fn goes_on<B: Bus>(ready: Ready, bus: &mut B) -> Result<bool, NoMemory> {
     let Some(Stage::Running(second)) = stepped(first, bus)? else {
         return Ok(false);
     };
-    let Some(again) = refused(second, bus)? else {
+    let Some(back) = refused(second, bus)? else {
+        return Ok(false);
+    };
+    let Some(again) = refused(back, bus)? else {
         return Ok(false);
     };
     let stands = is_before_write(&again);
@@ -370,6 +398,7 @@ fn a_run_goes_on_behind_a_failed_access(rt: HostRuntime) -> Result<(), Fail> {
     )?;
     let mut bus = FailBus::new(rt.alloc());
     bus.fail(2)?;
+    bus.fail(3)?;
     let went = match prepare(rt.alloc(), &krate, script, &mut bus) {
         Ok(ready) => goes_on(ready, &mut bus)?,
         Err(_) => false,

@@ -3,10 +3,12 @@ ghost use Rattle.frag_sem.specs.ScriptTyping.{script_fault};
 ghost use Rattle.frag_sem.specs.TextSurface.{text_surface};
 ghost use Rattle.frag_tree.specs.Trees.{crate_tree};
 
+use crate::crate_text::EXAMPLE;
 use frag_parse::parse_crate;
 use frag_script::{ScriptFault, parse_script};
 use frag_types::{CrateFault, TypedCrate, TypedScript, type_crate, type_script};
 use std::alloc::Global;
+use std::test::Fail;
 
 /// A text of version 1 that fits, with numbers that just fit: a register of 8 bits with a bit and a number,
 /// whose values have calls, a cluster that is an array, and two accessors with places of their own.
@@ -213,4 +215,24 @@ pub(crate) fn typed_script(
         Ok(typed) => Ok(typed),
         Err(back) => Err(back.fault),
     }
+}
+
+/// The text with some words in the place of others, once.
+pub(crate) fn edited(alloc: Global, text: &str, old: &str, new: &str) -> Result<String, Fail> {
+    let (before, after) = text.split_once(old).unwrap_or(("", ""));
+    Ok(format!(in alloc; "{before}{new}{after}")?)
+}
+
+/// The text as one of version 2.
+pub(crate) fn of_version_two(alloc: Global, text: &str) -> Result<String, Fail> {
+    Ok(format!(in alloc; "pub const CRATE_TEXT: u32 = 0x2;\n{text}")?)
+}
+
+/// The worked text, in which the second bit is an array of so many, each four bits behind the one before, for
+/// writes.
+pub(crate) fn worked_array(alloc: Global, count: &str) -> Result<String, Fail> {
+    let call = edited(alloc, EXAMPLE, "f1(&mut self)", "f1(&mut self, n: usize)")?;
+    let spot = format!(in alloc; "self, at_bit(1, 4, {count}, n))")?;
+    let text = edited(alloc, call.as_str(), "self, 1)", spot.as_str())?;
+    of_version_two(alloc, text.as_str())
 }

@@ -1,13 +1,13 @@
-use crate::texts::{CHANNELS, VALUED, typed, typed_script};
+use crate::texts::{CHANNELS, VALUED, edited, typed, typed_script, worked_array};
 use frag_script::{ScriptFault, ScriptTyping};
 use frag_types::{CrateFault, CrateTyping, TypedCrate};
 use std::alloc::Global;
 use std::test::Fail;
 
-// What is put in the place of what, once in the text of version 1, with the kind of the fault and what begins
-// the item at fault.
+// Names that stand twice: of slots, modules, struct fields, accessors, markers, readers, writers, and of the calls
+// of one type. What is put in the place of what, once in the text of version 1, with the kind of the fault and
+// what begins the item at fault.
 const NAMES: [(&str, &str, CrateTyping, &str); 10] = [
-    // names: of slots, modules, struct fields, accessors, markers, readers, writers, and of the calls of one type
     (
         "pub S: ",
         "pub T: ",
@@ -66,8 +66,8 @@ const NAMES: [(&str, &str, CrateTyping, &str); 10] = [
     ),
 ];
 
+// Modules that aren't there, of slots, fields and accessors.
 const MODULES: [(&str, &str, CrateTyping, &str); 6] = [
-    // modules: of slots, fields and accessors
     (
         "S: Periph<t::",
         "S: Periph<v::",
@@ -101,8 +101,8 @@ const MODULES: [(&str, &str, CrateTyping, &str); 6] = [
     ),
 ];
 
+// Bodies of accessors, and counts.
 const BODIES: [(&str, &str, CrateTyping, &str); 10] = [
-    // bodies of accessors
     (
         "&self.a }",
         "&self.b }",
@@ -161,8 +161,8 @@ const BODIES: [(&str, &str, CrateTyping, &str); 10] = [
     ),
 ];
 
-const READERS: [(&str, &str, CrateTyping, &str); 9] = [
-    // constants
+// Constants and readers.
+const READERS: [(&str, &str, CrateTyping, &str); 10] = [
     (
         "RESET_VALUE: u8",
         "RESET_VALUE: u16",
@@ -218,10 +218,17 @@ const READERS: [(&str, &str, CrateTyping, &str); 9] = [
         CrateTyping::UnknownName,
         "pub fn m(&self",
     ),
+    // of two readers the first
+    (
+        ">> 7) & 0x1) != 0x0) }\n            pub fn m(&self) -> FieldReader<M_F, u8> { FieldReader::new(((self.bits >> 0)",
+        ">> 8) & 0x1) != 0x0) }\n            pub fn m(&self) -> FieldReader<M_F, u8> { FieldReader::new(((self.bits >> 9)",
+        CrateTyping::LiteralRange,
+        "pub fn e(&self",
+    ),
 ];
 
+// Writers, and blocks of values.
 const WRITERS: [(&str, &str, CrateTyping, &str); 10] = [
-    // writers
     (
         "-> BitWriter<'_, Spec, E_F>",
         "-> BitWriter<'_, Spec, G_F>",
@@ -285,8 +292,8 @@ const WRITERS: [(&str, &str, CrateTyping, &str); 10] = [
     ),
 ];
 
+// Names of the prelude, directions, and ends of registers.
 const CALLS: [(&str, &str, CrateTyping, &str); 11] = [
-    // names of the prelude
     (
         "pub fn x(",
         "pub fn at(",
@@ -454,12 +461,6 @@ const FITS_INDEXED: [(&str, &str); 5] = [
     ("u8, 2> {", "u8, 8> {"),
 ];
 
-// The text with one word in the place of another, once.
-fn edited(alloc: Global, text: &str, old: &str, new: &str) -> Result<String, Fail> {
-    let (before, after) = text.split_once(old).unwrap_or(("", ""));
-    Ok(format!(in alloc; "{before}{new}{after}")?)
-}
-
 // Whether the text breaks a rule of the kind, first at the item that begins so.
 fn breaks(alloc: Global, text: &str, kind: CrateTyping, item: &str) -> bool {
     match typed(alloc, text) {
@@ -599,10 +600,15 @@ fn paths_that_double_64_deep(rt: HostRuntime) -> Result<(), Fail> {
 }
 
 // Scripts against the text of version 1, with the first line that doesn't type, and its kind.
-const UNFIT: [(&str, u32, ScriptTyping); 29] = [
+const UNFIT: [(&str, u32, ScriptTyping); 31] = [
     // names that stand for nothing
     ("U.a().reset();", 1, ScriptTyping::NoSuchName),
     ("say(s.bits());", 1, ScriptTyping::NoSuchName),
+    (
+        "say(s.bits());\nlet s = T.a().read();",
+        1,
+        ScriptTyping::NoSuchName,
+    ),
     (
         "T.a().modify(|_, w| w.bits(r.bits()));",
         1,
@@ -620,6 +626,11 @@ const UNFIT: [(&str, u32, ScriptTyping); 29] = [
     // an index too many or too few, and values of other types
     ("T.a(0).reset();", 1, ScriptTyping::WrongType),
     ("T.y().reset();", 1, ScriptTyping::WrongType),
+    (
+        "T.a().write(|w| w.e(0).set_bit());",
+        1,
+        ScriptTyping::WrongType,
+    ),
     ("T.a().write(|w| w.bits(true));", 1, ScriptTyping::WrongType),
     ("T.a().write(|w| w.e().bit(1));", 1, ScriptTyping::WrongType),
     ("say(!7);", 1, ScriptTyping::WrongType),
@@ -715,14 +726,61 @@ fn each_fault_of_a_script(rt: HostRuntime) -> Result<(), Fail> {
     Ok(())
 }
 
+// Scripts against the text of version 2, with the first line that doesn't type, and its kind.
+const UNFIT_INDEXED: [(&str, u32, ScriptTyping); 6] = [
+    (
+        "D.en().write(|w| w.ch(8).set_bit());",
+        1,
+        ScriptTyping::IndexRange,
+    ),
+    (
+        "D.en().write(|w| w.lv().bits(3));",
+        1,
+        ScriptTyping::WrongType,
+    ),
+    (
+        "let s = D.en().read();\nsay(s.lv(4).bits());",
+        2,
+        ScriptTyping::IndexRange,
+    ),
+    (
+        "let s = D.en().read();\nsay(s.ch().bit());",
+        2,
+        ScriptTyping::WrongType,
+    ),
+    // of two faults on one line the left one
+    (
+        "D.en().write(|w| w.ch(8).toggle_bit());",
+        1,
+        ScriptTyping::IndexRange,
+    ),
+    (
+        "D.en().write(|w| w.cg(8).set_bit().ch(8).set_bit());",
+        1,
+        ScriptTyping::NoSuchCall,
+    ),
+];
+
 #[test]
 fn indexes_in_a_script(rt: HostRuntime) -> Result<(), Fail> {
     let krate = typed(rt.alloc(), CHANNELS)?;
+    for (text, line, kind) in UNFIT_INDEXED {
+        assert!(rt; unfit(rt.alloc(), &krate, text, line, kind), "{text}");
+    }
     let last = "D.en().write(|w| w.ch(7).set_bit().lv(3).bits(3));";
     assert!(rt; typed_script(rt.alloc(), &krate, last).is_ok());
-    let past = "D.en().write(|w| w.ch(8).set_bit());";
+    Ok(())
+}
+
+#[test]
+fn an_array_in_the_worked_text(rt: HostRuntime) -> Result<(), Fail> {
+    let eight = worked_array(rt.alloc(), "8")?;
+    let krate = typed(rt.alloc(), eight.as_str())?;
+    let past = "T.sr().write(|w| w.f1(8).set_bit());";
     assert!(rt; unfit(rt.alloc(), &krate, past, 1, ScriptTyping::IndexRange));
-    let none = "D.en().write(|w| w.lv().bits(3));";
-    assert!(rt; unfit(rt.alloc(), &krate, none, 1, ScriptTyping::WrongType));
+    // the last of nine would be bit 33
+    let nine = worked_array(rt.alloc(), "9")?;
+    let kind = CrateTyping::LiteralRange;
+    assert!(rt; breaks(rt.alloc(), nine.as_str(), kind, "pub fn f1(&mut"));
     Ok(())
 }
