@@ -9,9 +9,13 @@ mod crate_text;
 #[cfg(test)]
 mod events;
 #[cfg(test)]
+mod fitting;
+#[cfg(test)]
 mod identifiers;
 #[cfg(test)]
 mod running;
+#[cfg(test)]
+mod script_typing;
 #[cfg(test)]
 mod scripts;
 #[cfg(test)]
