@@ -4,7 +4,7 @@ use pac_io::{MemSink, SinkFault};
 use std::alloc::Global;
 use std::test::Fail;
 
-const EXAMPLE: &str = "use crate::generic::*;
+pub(crate) const EXAMPLE: &str = "use crate::generic::*;
 
 pub struct Peripherals {
     pub T: Periph<t::RegisterBlock, 0x40000000>,

@@ -9,6 +9,16 @@ mod crate_text;
 #[cfg(test)]
 mod events;
 #[cfg(test)]
+mod fitting;
+#[cfg(test)]
 mod identifiers;
 #[cfg(test)]
+mod running;
+#[cfg(test)]
+mod script_typing;
+#[cfg(test)]
 mod scripts;
+#[cfg(test)]
+mod texts;
+#[cfg(test)]
+mod typing;
