@@ -7,7 +7,7 @@ program="$top/crates/pac_main/out/pac_main"
 declare -A deps=()  # a crate to what it names in crates.txt
 declare -A below=() # the crates of this repository that the program is made of, its own among them
 declare -A ready=() # those of them that are proved
-folder=''           # the build's own files: `began`, and `said`, which is what `rt` says of the crate in hand
+folder=''           # the build's own files: `began`, `said`, which is what `rt` says of the crate in hand, and `room`, for its files
 builder=''          # the process of `rt`
 
 say() { echo "pac: $*" >&2; }
@@ -55,10 +55,10 @@ build() {
     trap 'exit 129' HUP
     trap 'exit 130' INT
     trap 'exit 143' TERM
-    folder="$(mktemp -d)" && touch "$folder/began" "$folder/said" || exit 70
+    folder="$(mktemp -d)" && mkdir "$folder/room" && touch "$folder/began" "$folder/said" || exit 70
     say "$1: proving and building it, ${#below[@]} crates; from nothing about 25 minutes on four processors"
     say "after a quick pass over all of them comes a line for each as it is proved"
-    exec 3< <(cd "$top/crates/pac_main" && exec rt run -- list data/one_register.svd 2>&1 </dev/null)
+    exec 3< <(cd "$top/crates/pac_main" && TMPDIR="$folder/room" exec rt run -- list data/one_register.svd 2>&1 </dev/null)
     builder=$!
     while IFS= read -r line <&3; do
         echo "$line" >>"$folder/said"
