@@ -131,14 +131,14 @@ number-is parent (Some m) e = ap Some (sym (eqb-true parent m e))
 pub child_is : (parent n : ℕ) (items : List Item) (d : ℕ) → among d (children_among parent n items) ≡ true → IsChild parent n items d
 unfolding children_among
 child_is parent n [] d h = absurd (true≢false (sym h))
-child_is parent n (item ∷ items) d h = at (is_number parent item.parent) refl h
+child_is parent n (item ∷ items) d h = at (λ p. later (child_is parent (n + 1) items d p)) (is_number parent item.parent) refl h
   where
-    later : among d (children_among parent (n + 1) items) ≡ true → IsChild parent n (item ∷ items) d
-    later p = let r = child_is parent (n + 1) items d p in record { place = suc r.place; is = omega (arith, r.is); inside = omega (arith, r.inside); below = r.below }
+    later : IsChild parent (n + 1) items d → IsChild parent n (item ∷ items) d
+    later r = record { place = suc r.place; is = omega (arith, r.is); inside = omega (arith, r.inside); below = r.below }
 
-    at : (b : Bool) → is_number parent item.parent ≡ b → among d (cond b (n ∷ children_among parent (n + 1) items) (children_among parent (n + 1) items)) ≡ true → IsChild parent n (item ∷ items) d
-    at false e p = later p
-    at true e p = elim (or_cases (nat_eq d n) (among d (children_among parent (n + 1) items)) p) [
+    at : (among d (children_among parent (n + 1) items) ≡ true → IsChild parent n (item ∷ items) d) → (b : Bool) → is_number parent item.parent ≡ b → among d (cond b (n ∷ children_among parent (n + 1) items) (children_among parent (n + 1) items)) ≡ true → IsChild parent n (item ∷ items) d
+    at again false e p = again p
+    at again true e p = elim (or_cases (nat_eq d n) (among d (children_among parent (n + 1) items)) p) [
       | inl q ↦ record { place = 0; is = omega (arith, eqb-true d n q); inside = omega arith; below = number-is parent item.parent e }
-      | inr q ↦ later q
+      | inr q ↦ again q
     ]

@@ -51,12 +51,12 @@ all_passing P test (path ∷ paths) each = at (test path) refl (all_passing P te
 -- where nothing is found, each fails the test
 nothing_found : (test : List Step → Bool) (paths : List (List Step)) (path : List Step) → find test paths ≡ None → IsAmong paths path → test path ≡ false
 nothing_found test [] path none h = absurd (true≢false (sym h))
-nothing_found test (x ∷ paths) path none h = at (test x) refl none (member-cases same_path same_path-tells x paths path h)
+nothing_found test (x ∷ paths) path none h = at (λ p q. nothing_found test paths path p q) (test x) refl none (member-cases same_path same_path-tells x paths path h)
   where
-    at : (b : Bool) → test x ≡ b → cond b (Some x) (find test paths) ≡ None → (path ≡ x) ⊎ IsAmong paths path → test path ≡ false
-    at true e p c = absurd cc
-    at false e p (inl same) = ap test same ∙ e
-    at false e p (inr q) = nothing_found test paths path p q
+    at : (find test paths ≡ None → IsAmong paths path → test path ≡ false) → (b : Bool) → test x ≡ b → cond b (Some x) (find test paths) ≡ None → (path ≡ x) ⊎ IsAmong paths path → test path ≡ false
+    at again true e p c = absurd cc
+    at again false e p (inl same) = ap test same ∙ e
+    at again false e p (inr q) = again p q
 
 module _ (all : Rows) (items : List Item) (numbered : AreNumbered all items) (sources : List (Option ℕ)) (tells : TellsSources all sources) (elements : List Element) (graph : IsGraph items sources elements) where
   abbrev at : ℕ → List Step
@@ -116,13 +116,13 @@ module _ (all : Rows) (items : List Item) (numbered : AreNumbered all items) (so
 
   -- where no source is missing, those that have a source are those that state one
   states_is_based : first_missing all ≡ None → (e : ℕ) → e < length items → is_some (source_names all (at e)) ≡ is_based elements e
+  unfolding first_missing
   states_is_based whole e inside = elim (cases_Bool (is_some (source_names all (at e)))) [
     | inl p ↦ p ∙ sym (based ∙ some_by (source_of all (at e)) (nothing_found (λ path. is_none (source_of all path)) (deriving_paths all) (at e) whole_found (deriving-member all (at e) here p)))
     | inr q ↦ q ∙ sym (based ∙ ap is_some (no_source all (at e) q))
   ]
     where
       whole_found : find (λ path. is_none (source_of all path)) (deriving_paths all) ≡ None
-      unfolding first_missing
       whole_found = whole
 
       some_map : (o : Option ℕ) → is_some (option_map at o) ≡ is_some o
@@ -145,6 +145,7 @@ module _ (all : Rows) (items : List Item) (numbered : AreNumbered all items) (so
           at_place (x ∷ paths) (suc i) h = member-tail same_path same_path-tells x paths (get_or paths i []) (at_place paths i (omega (arith, h)))
 
   first_on_circle : first_missing all ≡ None → (e : ℕ) → is_based elements e ≡ true → Leads (needs elements) e e → HasNoneBelow elements e → e < length items → IsFirstOnCircle all (at e)
+  unfolding deriving_paths
   first_on_circle whole e based way none inside = record {
     before = filter states (take e (paths_of all));
     after = filter states (drop (suc e) (paths_of all));
@@ -168,7 +169,6 @@ module _ (all : Rows) (items : List Item) (numbered : AreNumbered all items) (so
           none i below (sym (states_is_based whole i here) ∙ passes, circle_by_number i here circle)
 
       stands : deriving_paths all ≡ filter states (take e (paths_of all)) ++ (at e ∷ filter states (drop (suc e) (paths_of all)))
-      unfolding deriving_paths
       stands =
           ap (filter states) (sym (take-append-drop e (paths_of all)) ∙ ap (λ rest. take e (paths_of all) ++ rest) (drop-cons (paths_of all) e [] long))
           ∙ filter-append states (take e (paths_of all)) (at e ∷ drop (suc e) (paths_of all))
@@ -176,6 +176,7 @@ module _ (all : Rows) (items : List Item) (numbered : AreNumbered all items) (so
 
   -- what a fault of needs says
   pub circle_told : first_missing all ≡ None → (fault : NeedFault) → IsFaultOf elements fault → TellsCycle all fault
+  unfolding IsPath
   circle_told whole (need_fault.Circle (Some e)) h =
       (whole, first_on_circle whole e h.1.0.0 h.1.0.1 h.1.1 (inside_of h.1.0.1))
     where

@@ -1,6 +1,7 @@
 -- The rows of an element with its keys and children: its children again, how many elements stand below, and how deep.
 use Rattle.std.proofs.Common.{◌≡◌, ℕ, suc, ◌+◌, Bool, true, false, ◌&&◌, ◌||◌, cond, nat_le, List, [], ◌∷◌, ◌++◌, map, filter, filter_map, length, take, drop, sum_by, Option, None, Some, option_map, refl, sym, ap, ap₂, ◌∙◌, subst, arith, append-nil, map-id}
 use Rattle.std.specs.List.{AllByRecursion, IsDistinct, cons_option, find, flat_map, list_any}
+use Rattle.std.proofs.Math.Dec.{leb-suc-suc, leb-suc-zero}
 use Rattle.std.proofs.lemmas.Bool.{true≢false}
 use Rattle.std.proofs.lemmas.List.{length-append, map-append}
 use Rattle.std.proofs.lemmas.List.Elements.{filter-append, filter_map-append}
@@ -161,10 +162,16 @@ children_told keys xs whole =
 pub parts_again : (keys : List Key) (xs : List Part) → AreWhole xs → Apart xs → parts_of (element_rows keys xs) ≡ xs
 parts_again keys xs whole apart =
     ap (map (λ s. (s, inside same_step (s ∷ []) (element_rows keys xs)))) (children_told keys xs whole)
-    ∙ agree_on (λ s. (s, inside same_step (s ∷ []) (element_rows keys xs))) (λ s. (s, within_rows (sibling_rows xs) s)) xs (all_same xs)
+    ∙ agree_on seen told xs (all_same xs)
     ∙ siblings_again xs apart
   where
-    all_same : (ys : List Part) → AllByRecursion (λ (x : Part). (x.0, inside same_step (x.0 ∷ []) (element_rows keys xs)) ≡ (x.0, within_rows (sibling_rows xs) x.0)) ys
+    seen : Step → Part
+    seen s = (s, inside same_step (s ∷ []) (element_rows keys xs))
+
+    told : Step → Part
+    told s = (s, within_rows (sibling_rows xs) s)
+
+    all_same : (ys : List Part) → AllByRecursion (λ (x : Part). seen x.0 ≡ told x.0) ys
     all_same [] = tt
     all_same (y ∷ ys) = (ap (λ r. (y.0, r)) (inside_is y.0 keys xs), all_same ys)
 
@@ -265,12 +272,8 @@ unfoldable paths_below : List Part → List (List Step)
 paths_below xs = flat_map (λ (x : Part). map (λ path. x.0 ∷ path) (paths_of x.1)) xs
 
 paths-siblings : (xs : List Part) → paths_of (sibling_rows xs) ≡ paths_below xs
-unfolding paths_below
-paths-siblings [] = none
-  where
-    none : paths_of []  ≡ []
-    unfolding paths_of
-    none = refl
+unfolding paths_below paths_of
+paths-siblings [] = refl
 paths-siblings (x ∷ xs) = paths-append (map (under x.0) x.1) (sibling_rows xs) ∙ ap₂ (λ a b. a ++ b) (paths-under x.0 x.1) (paths-siblings xs)
 
 paths-element : (keys : List Key) (xs : List Part) → paths_of (element_rows keys xs) ≡ [] ∷ paths_below xs
@@ -282,11 +285,11 @@ long_whole all whole = ap (is_long 0) whole.is ∙ ap (list_any (λ (path : List
 
 long-map : (levels : ℕ) (s : Step) (paths : List (List Step)) → list_any (λ (path : List Step). nat_le (suc levels) (length path)) (map (λ path. s ∷ path) paths) ≡ list_any (λ (path : List Step). nat_le levels (length path)) paths
 long-map levels s [] = refl
-long-map levels s (path ∷ paths) = ap (λ b. nat_le levels (length path) || b) (long-map levels s paths)
+long-map levels s (path ∷ paths) = ap₂ (λ a b. a || b) (leb-suc-suc levels (length path)) (long-map levels s paths)
 
 pub long_by : (levels : ℕ) (keys : List Key) (xs : List Part) → is_long (suc levels) (element_rows keys xs) ≡ list_any (λ (x : Part). is_long levels x.1) xs
 unfolding paths_below
-long_by levels keys xs = ap (list_any (λ (path : List Step). nat_le (suc levels) (length path))) (paths-element keys xs) ∙ every xs
+long_by levels keys xs = ap (list_any (λ (path : List Step). nat_le (suc levels) (length path))) (paths-element keys xs) ∙ ap (λ b. b || list_any (λ (path : List Step). nat_le (suc levels) (length path)) (paths_below xs)) (leb-suc-zero levels) ∙ every xs
   where
     every : (xs : List Part) → list_any (λ (path : List Step). nat_le (suc levels) (length path)) (paths_below xs) ≡ list_any (λ (x : Part). is_long levels x.1) xs
     every [] = refl
@@ -297,14 +300,19 @@ long_by levels keys xs = ap (list_any (λ (path : List Step). nat_le (suc levels
 -- the first child below which a path is too long
 pub first_long : (levels : ℕ) (keys : List Key) (xs : List Part) → option_map (take 1) (find (λ (path : List Step). nat_le (suc levels) (length path)) (paths_of (element_rows keys xs))) ≡ option_map (λ (x : Part). x.0 ∷ []) (find (λ (x : Part). is_long levels x.1) xs)
 unfolding paths_below
-first_long levels keys xs = ap (λ paths. option_map (take 1) (find test paths)) (paths-element keys xs) ∙ every xs
+first_long levels keys xs =
+    ap (λ paths. option_map (take 1) (find test paths)) (paths-element keys xs)
+    ∙ ap (λ b. option_map (take 1) (cond b (Some []) (find test (paths_below xs)))) (leb-suc-zero levels)
+    ∙ every xs
   where
     test : List Step → Bool
     test path = nat_le (suc levels) (length path)
 
     among_one : (s : Step) (paths rest : List (List Step)) → option_map (take 1) (find test (map (λ path. s ∷ path) paths ++ rest)) ≡ cond (list_any (λ (path : List Step). nat_le levels (length path)) paths) (Some (s ∷ [])) (option_map (take 1) (find test rest))
     among_one s [] rest = refl
-    among_one s (path ∷ paths) rest = by (nat_le levels (length path)) (among_one s paths rest)
+    among_one s (path ∷ paths) rest =
+        ap (λ b. option_map (take 1) (cond b (Some (s ∷ path)) (find test (map (λ path. s ∷ path) paths ++ rest)))) (leb-suc-suc levels (length path))
+        ∙ by (nat_le levels (length path)) (among_one s paths rest)
       where
         by : (b : Bool) → option_map (take 1) (find test (map (λ path. s ∷ path) paths ++ rest)) ≡ cond (list_any (λ (path : List Step). nat_le levels (length path)) paths) (Some (s ∷ [])) (option_map (take 1) (find test rest))
             → option_map (take 1) (cond b (Some (s ∷ path)) (find test (map (λ path. s ∷ path) paths ++ rest))) ≡ cond (b || list_any (λ (path : List Step). nat_le levels (length path)) paths) (Some (s ∷ [])) (option_map (take 1) (find test rest))

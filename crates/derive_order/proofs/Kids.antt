@@ -1,5 +1,5 @@
 -- What each element comes to is its keys with its derived children, told by their numbers.
-use Rattle.std.proofs.Common.{◌≡◌, inl, inr, ℕ, zero, suc, ◌+◌, ◌<◌, ◌≤◌, Bool, true, false, not, ◌&&◌, ◌||◌, cond, nat_eq, nat_lt, List, [], ◌∷◌, ◌++◌, map, length, take, sum_by, get_or, Option, None, Some, option_map, refl, sym, ap, ap₂, ◌∙◌, subst, arith, append_assoc, append-nil}
+use Rattle.std.proofs.Common.{◌≡◌, inl, inr, ℕ, zero, suc, ◌+◌, ◌<◌, ◌≤◌, Bool, true, false, not, ◌&&◌, ◌||◌, cond, nat_eq, nat_lt, List, [], ◌∷◌, ◌++◌, map, length, take, sum_by, get_or, Option, None, Some, option_map, refl, sym, ap, ap₂, ◌∙◌, subst, arith, append_assoc, append-nil, zero-add}
 use Rattle.std.specs.List.{AllByRecursion, IsDistinct, find, list_any}
 use Rattle.std.specs.Str.{bytes_eq}
 use Rattle.std.proofs.lemmas.Bool.{cases_Bool, cases_lt, eq-eqb, ne_eqb, true≢false}
@@ -76,11 +76,11 @@ module _ {X : Type 0} (P : (Step × X) → Type 0) (moved : (child : Step × X) 
   replaced-has : (own : List (Step × X)) (c : Step × X) → AllByRecursion P own → P c → P (replaced_by own c)
   unfolding replaced_by
   replaced-has [] c h p = p
-  replaced-has (o ∷ own) c h p = by (bytes_eq c.0.name o.0.name)
+  replaced-has (o ∷ own) c h p = by (replaced-has own c h.1 p) (bytes_eq c.0.name o.0.name)
     where
-      by : (b : Bool) → P (cond b o (replaced_by own c))
-      by true = h.0
-      by false = replaced-has own c h.1 p
+      by : P (replaced_by own c) → (b : Bool) → P (cond b o (replaced_by own c))
+      by rest true = h.0
+      by rest false = rest
 
   each_append : (xs ys : List (Step × X)) → AllByRecursion P xs → AllByRecursion P ys → AllByRecursion P (xs ++ ys)
   each_append [] ys h k = k
@@ -191,38 +191,38 @@ module _ (all : Rows) (items : List Item) (numbered : AreNumbered all items) (so
   distinct_numbers : (parent n : ℕ) (xs : List Item) → IsDistinct nat_eq (children_among parent n xs)
   unfolding children_among IsDistinct
   distinct_numbers parent n [] = tt
-  distinct_numbers parent n (x ∷ xs) = by (is_number parent x.parent)
+  distinct_numbers parent n (x ∷ xs) = by (distinct_numbers parent (n + 1) xs) (is_number parent x.parent)
     where
-      by : (b : Bool) → IsDistinct nat_eq (cond b (n ∷ children_among parent (n + 1) xs) (children_among parent (n + 1) xs))
-      by true = (all_among (λ d. nat_eq n d ≡ false) (children_among parent (n + 1) xs) (λ d p. let r = child_is parent (n + 1) xs d p in ne_eqb n d (λ e. absurd (omega (arith, e, r.is)))), distinct_numbers parent (n + 1) xs)
-      by false = distinct_numbers parent (n + 1) xs
+      by : IsDistinct nat_eq (children_among parent (n + 1) xs) → (b : Bool) → IsDistinct nat_eq (cond b (n ∷ children_among parent (n + 1) xs) (children_among parent (n + 1) xs))
+      by others true = (all_among (λ d. nat_eq n d ≡ false) (children_among parent (n + 1) xs) (λ d p. let r = child_is parent (n + 1) xs d p in ne_eqb n d (λ e. absurd (omega (arith, e, r.is)))), others)
+      by others false = others
+
+  abbrev kid : ℕ → Kid
+  kid d = (last_step (path_at all d), d)
+
+  steps_apart : (e x y : ℕ) → IsOwn e x → IsOwn e y → nat_eq x y ≡ false → same_place (kid x) (kid y) ≡ false
+  steps_apart e x y p q differ = elim (cases_Bool (same_place (kid x) (kid y))) [
+    | inr r ↦ r
+    | inl r ↦
+        let step : last_step (path_at all x) ≡ last_step (path_at all y) = same_step-tells.alone (last_step (path_at all x)) (last_step (path_at all y)) r in
+        let same : x ≡ y = one_number all items numbered x y p.inside q.inside (p.path ∙ ap (λ (t : Step). path_at all e ++ t ∷ []) step ∙ sym q.path) in
+        absurd (true≢false (sym (eq-eqb x y same) ∙ differ))
+  ]
+
+  apart_each : (e x : ℕ) → IsOwn e x → (ys : List ℕ) → ((d : ℕ) → among d ys ≡ true → IsOwn e d) → AllByRecursion (λ y. nat_eq x y ≡ false) ys → AllByRecursion (λ y. same_place (kid x) (kid y) ≡ false) ys
+  apart_each e x own [] others h = tt
+  apart_each e x own (y ∷ ys) others h = (steps_apart e x y own (others y (among-head y ys)) h.0, apart_each e x own ys (λ d p. others d (or_right (nat_eq d y) (among d ys) p)) h.1)
+
+  spread : (e : ℕ) (xs : List ℕ) → ((d : ℕ) → among d xs ≡ true → IsOwn e d) → IsDistinct nat_eq xs → Apart (map kid xs)
+  unfolding IsDistinct
+  spread e [] own h = tt
+  spread e (x ∷ xs) own h =
+      let later : (d : ℕ) → among d xs ≡ true → IsOwn e d = λ d p. own d (or_right (nat_eq d x) (among d xs) p) in
+      (each-map (λ y. same_place (kid x) y ≡ false) kid xs (apart_each e x (own x (among-head x xs)) xs later h.0), spread e xs later h.1)
 
   own_apart : (e : ℕ) → Apart (own_kids all items e)
   unfolding own_kids
-  own_apart e = spread (children_among e 0 items) (λ d p. own_is e d p) (distinct_numbers e 0 items)
-    where
-      kid : ℕ → Kid
-      kid d = (last_step (path_at all d), d)
-
-      apart : (x y : ℕ) → IsOwn e x → IsOwn e y → nat_eq x y ≡ false → same_place (kid x) (kid y) ≡ false
-      apart x y p q differ = elim (cases_Bool (same_place (kid x) (kid y))) [
-        | inr r ↦ r
-        | inl r ↦
-            let step : last_step (path_at all x) ≡ last_step (path_at all y) = same_step-tells.alone (last_step (path_at all x)) (last_step (path_at all y)) r in
-            let same : x ≡ y = one_number all items numbered x y p.inside q.inside (p.path ∙ ap (λ (t : Step). path_at all e ++ t ∷ []) step ∙ sym q.path) in
-            absurd (true≢false (sym (eq-eqb x y same) ∙ differ))
-      ]
-
-      spread : (xs : List ℕ) → ((d : ℕ) → among d xs ≡ true → IsOwn e d) → IsDistinct nat_eq xs → Apart (map kid xs)
-      unfolding IsDistinct
-      spread [] own h = tt
-      spread (x ∷ xs) own h =
-          let later : (d : ℕ) → among d xs ≡ true → IsOwn e d = λ d p. own d (or_right (nat_eq d x) (among d xs) p) in
-          (each-map (λ y. same_place (kid x) y ≡ false) kid xs (both xs later h.0), spread xs later h.1)
-        where
-          both : (ys : List ℕ) → ((d : ℕ) → among d ys ≡ true → IsOwn e d) → AllByRecursion (λ y. nat_eq x y ≡ false) ys → AllByRecursion (λ y. same_place (kid x) (kid y) ≡ false) ys
-          both [] others h = tt
-          both (y ∷ ys) others h = (apart x y (own x (among-head x xs)) (others y (among-head y ys)) h.0, both ys (λ d p. others d (or_right (nat_eq d y) (among d ys) p)) h.1)
+  own_apart e = spread e (children_among e 0 items) (λ d p. own_is e d p) (distinct_numbers e 0 items)
 
   -- ---- what elements come to
 
@@ -364,10 +364,10 @@ module _ (all : Rows) (items : List Item) (numbered : AreNumbered all items) (so
   top_rows some = ap derived (sym (top_path some))
 
   no_source_of_top : 0 < length items → get_or sources 0 None ≡ None
+  unfolding source_of kind_at
   no_source_of_top some = at (get_or sources 0 None) (told_at all items numbered sources tells 0 some ∙ ap (source_of all) (top_path some) ∙ none)
     where
       none : source_of all [] ≡ None
-      unfolding source_of kind_at
       none = refl
 
       at : (o : Option ℕ) → option_map (path_at all) o ≡ None → o ≡ None
@@ -437,6 +437,7 @@ module _ (all : Rows) (items : List Item) (numbered : AreNumbered all items) (so
     unfolding elements_of
     elements_counted some =
         ap (amount is_counted) (top_rows some)
+        ∙ sym (zero-add (amount is_counted (rows_at 0)))
         ∙ ap (λ b. flag_weight b + amount is_counted (rows_at 0)) (sym (counted 0 some ∙ ap is_counted_kind (at (item_at items 0).parent (seat all items numbered 0 some))))
         ∙ weight_is 0 some
       where

@@ -15,20 +15,20 @@ use Rattle.need_order.proofs.Numbers.{or_none, both_false, or_left}
 use Rattle.svd_model.specs.Steps.{Step, Kind, peripheral, cluster, register, field, set, value, same_kind, same_step}
 use Rattle.svd_model.proofs.Steps.{same_step-tells}
 
+or_false : (b : Bool) → (b || false) ≡ b
+or_false true = refl
+or_false false = refl
+
+or_true : (b : Bool) → (b || true) ≡ true
+or_true true = refl
+or_true false = refl
+
+and_false : (b : Bool) → (b && false) ≡ false
+and_false true = refl
+and_false false = refl
+
 module _ {X : Type 0} where
   -- ---- names
-
-  or_false : (b : Bool) → (b || false) ≡ b
-  or_false true = refl
-  or_false false = refl
-
-  or_true : (b : Bool) → (b || true) ≡ true
-  or_true true = refl
-  or_true false = refl
-
-  and_false : (b : Bool) → (b && false) ≡ false
-  and_false true = refl
-  and_false false = refl
 
   named-push : (before : List (Step × X)) (c o : Step × X) → has_named (before ++ c ∷ []) o ≡ (has_named before o || bytes_eq o.0.name c.0.name)
   unfolding has_named
@@ -90,7 +90,7 @@ module _ {X : Type 0} where
   added-first : (pre source own : List (Step × X)) (c : Step × X) → has_named source c ≡ false → has_named pre c ≡ false → has_named own c ≡ true → IsPermutation (added pre source own) (replaced_by own c ∷ added pre (source ++ c ∷ []) own)
   unfolding added replaced_by has_named
   added-first pre source [] c fresh new there = absurd (true≢false (sym there))
-  added-first pre source (o ∷ own) c fresh new there = elim (cases_Bool (bytes_eq c.0.name o.0.name)) [ inl p ↦ first p | inr q ↦ other q ]
+  added-first pre source (o ∷ own) c fresh new there = elim (cases_Bool (bytes_eq c.0.name o.0.name)) [ inl p ↦ first p | inr q ↦ other (λ new there. added-first (pre ++ o ∷ []) source own c fresh new there) q ]
     where
       after : List (Step × X)
       after = source ++ c ∷ []
@@ -113,10 +113,10 @@ module _ {X : Type 0} where
           (added-more (pre ++ o ∷ []) source own c (inr (inl (named-push pre o c ∙ ap (λ b. has_named pre c || b) p ∙ or_true (has_named pre c)))))
           (IsPermutation-refl (o ∷ added (pre ++ o ∷ []) source own)))
 
-      other : bytes_eq c.0.name o.0.name ≡ false → goal (is_left_out pre source o) (is_left_out pre after o) (bytes_eq c.0.name o.0.name)
-      other q =
+      other : (has_named (pre ++ o ∷ []) c ≡ false → has_named own c ≡ true → IsPermutation (added (pre ++ o ∷ []) source own) (replaced_by own c ∷ added (pre ++ o ∷ []) after own)) → bytes_eq c.0.name o.0.name ≡ false → goal (is_left_out pre source o) (is_left_out pre after o) (bytes_eq c.0.name o.0.name)
+      other further q =
           let same_out : is_left_out pre after o ≡ is_left_out pre source o = ap (λ b. b && not (has_named pre o)) (named-push source c o ∙ ap (λ b. has_named source o || b) (turned c o q) ∙ or_false (has_named source o)) in
-          let again = added-first (pre ++ o ∷ []) source own c fresh (named-push pre o c ∙ both_false (has_named pre c) (bytes_eq c.0.name o.0.name) new q) (sym (ap (λ b. b || has_named own c) q) ∙ there) in
+          let again = further (named-push pre o c ∙ both_false (has_named pre c) (bytes_eq c.0.name o.0.name) new q) (sym (ap (λ b. b || has_named own c) q) ∙ there) in
           closed (is_left_out pre source o) (is_left_out pre source o) false refl same_out q
           (IsPermutation-trans _ _ _
           (IsPermutation-append_right (cond (is_left_out pre source o) [] (o ∷ [])) _ _ again)
@@ -134,13 +134,17 @@ module _ {X : Type 0} where
   abbrev pub is_kept : List (Step × X) → (Step × X) → Bool
   is_kept own c = not (has_named own c)
 
+  none-named : (c : Step × X) → has_named [] c ≡ false
+  unfolding has_named
+  none-named c = refl
+
   kept-added : (before source own : List (Step × X)) → IsPermutation (kept before source own ++ added [] (before ++ source) own) (filter (is_kept own) source ++ added [] before own)
   unfolding kept
   kept-added before [] own = subst (λ all. IsPermutation (added [] (before ++ []) own) (added [] all own)) (append-nil before) (IsPermutation-refl (added [] (before ++ []) own))
   kept-added before (c ∷ source) own =
       subst (λ all. IsPermutation ((cond (has_named own c && has_named before c) [] (replaced_by own c ∷ []) ++ kept (before ++ c ∷ []) source own) ++ added [] all own) (filter (is_kept own) (c ∷ source) ++ added [] before own))
       (append_assoc before (c ∷ []) source)
-      (by (has_named own c) (has_named before c) refl refl)
+      (by (kept-added (before ++ c ∷ []) source own) (has_named own c) (has_named before c) refl refl)
     where
       K : List (Step × X)
       K = kept (before ++ c ∷ []) source own
@@ -151,23 +155,16 @@ module _ {X : Type 0} where
       F : List (Step × X)
       F = filter (is_kept own) source
 
-      again : IsPermutation (K ++ A) (F ++ added [] (before ++ c ∷ []) own)
-      again = kept-added (before ++ c ∷ []) source own
-
-      by : (a b : Bool) → has_named own c ≡ a → has_named before c ≡ b → IsPermutation ((cond (a && b) [] (replaced_by own c ∷ []) ++ K) ++ A) (cond (not a) (c ∷ F) F ++ added [] before own)
-      by false b e f =
+      by : IsPermutation (K ++ A) (F ++ added [] (before ++ c ∷ []) own) → (a b : Bool) → has_named own c ≡ a → has_named before c ≡ b → IsPermutation ((cond (a && b) [] (replaced_by own c ∷ []) ++ K) ++ A) (cond (not a) (c ∷ F) F ++ added [] before own)
+      by again false b e f =
           subst (λ r. IsPermutation (r ∷ (K ++ A)) (c ∷ (F ++ added [] before own))) (sym (stays-itself own c e))
           (IsPermutation-cons c _ _ (subst (λ rest. IsPermutation (K ++ A) (F ++ rest)) (sym (added-more [] before own c (inr (inr e)))) again))
-      by true true e f =
+      by again true true e f =
           subst (λ rest. IsPermutation (K ++ A) (F ++ rest)) (sym (added-more [] before own c (inl f))) again
-      by true false e f =
+      by again true false e f =
           IsPermutation-trans _ _ _ (IsPermutation-cons (replaced_by own c) _ _ again)
           (IsPermutation-trans _ _ _ (IsPermutation-sym _ _ (IsPermutation-middle F (replaced_by own c) (added [] (before ++ c ∷ []) own)))
-          (IsPermutation-append_right F _ _ (IsPermutation-sym _ _ (added-first [] before own c f named-none e))))
-        where
-          named-none : has_named {X = X} [] c ≡ false
-          unfolding has_named
-          named-none = refl
+          (IsPermutation-append_right F _ _ (IsPermutation-sym _ _ (added-first [] before own c f (none-named c) e))))
 
   pub merged_shuffled : (source own : List (Step × X)) → IsPermutation (merged source own) (filter (is_kept own) source ++ own)
   unfolding merged
@@ -248,14 +245,13 @@ module _ {X : Type 0} where
 
   -- one whose name isn't there is none of them
   unlike : (own : List (Step × X)) (c : Step × X) → has_named own c ≡ false → AllByRecursion (λ y. same_place c y ≡ false) own
-  unfolding has_named
+  unfolding has_named same_step
   unlike [] c none = tt
   unlike (o ∷ own) c none =
       let parts = or_none (bytes_eq c.0.name o.0.name) (has_named own c) none in
       (apart parts.0, unlike own c parts.1)
     where
       apart : bytes_eq c.0.name o.0.name ≡ false → same_step c.0 o.0 ≡ false
-      unfolding same_step
       apart e = ap (λ b. same_kind c.0.kind o.0.kind && (b && nat_eq c.0.number o.0.number)) e ∙ and_false (same_kind c.0.kind o.0.kind)
 
   apart_both : (own source : List (Step × X)) → Apart source → Apart own → Apart (filter (is_kept own) source ++ own)
@@ -271,12 +267,11 @@ module _ {X : Type 0} where
   merged-apart source own h k = IsDistinct-IsPermutation same_place flips (filter (is_kept own) source ++ own) (merged source own) (IsPermutation-sym _ _ (merged_shuffled source own)) (apart_both own source h k)
 
   renumbered-later : (s : Step) (n : ℕ) (xs : List (Step × X)) (x : X) → s.number + 1 ≤ n → AllByRecursion (λ y. same_place (s, x) y ≡ false) (renumbered n xs)
-  unfolding renumbered
+  unfolding renumbered same_step
   renumbered-later s n [] x h = tt
   renumbered-later s n (y ∷ ys) x h = (apart, renumbered-later s (n + 1) ys x (omega (arith, h)))
     where
       apart : same_step s (record { kind = y.0.kind; name = y.0.name; number = n }) ≡ false
-      unfolding same_step
       apart =
           ap (λ b. same_kind s.kind y.0.kind && (bytes_eq s.name y.0.name && b)) (ne_eqb s.number n (λ e. absurd (omega (arith, h, e))))
           ∙ ap (λ b. same_kind s.kind y.0.kind && b) (and_false (bytes_eq s.name y.0.name)) ∙ and_false (same_kind s.kind y.0.kind)

@@ -1,5 +1,5 @@
 -- Lists of numbers that are the same in some order.
-use Rattle.std.proofs.Common.{◌≡◌, ℕ, zero, suc, ◌+◌, ◌<◌, Bool, true, false, not, ◌&&◌, ◌||◌, cond, nat_eq, nat_lt, List, [], ◌∷◌, ◌++◌, filter, sum_by, refl, sym, ap, ap₂, ◌∙◌, subst, arith}
+use Rattle.std.proofs.Common.{◌≡◌, ℕ, zero, suc, ◌+◌, ◌<◌, Bool, true, false, not, ◌&&◌, ◌||◌, cond, nat_eq, nat_lt, List, [], ◌∷◌, ◌++◌, filter, sum_by, refl, sym, ap, ap₂, ◌∙◌, subst, arith, zero-add}
 use Rattle.std.specs.List.{list_any}
 use Rattle.std.specs.List.Sorted.{IsPermutation}
 use Rattle.std.proofs.lemmas.Bool.{eq-eqb, lt-ltb, true≢false}
@@ -51,7 +51,7 @@ sum_filtered f p (x ∷ xs) = by (p x) (sum_filtered f p xs) ∙ sym (sum_by-con
   where
     by : (b : Bool) → sum_by f (filter p xs) ≡ sum_by (λ y. cond (p y) (f y) 0) xs → sum_by f (cond b (x ∷ filter p xs) (filter p xs)) ≡ cond b (f x) 0 + sum_by (λ y. cond (p y) (f y) 0) xs
     by true e = sum_by-cons f x (filter p xs) ∙ ap (λ n. f x + n) e
-    by false e = e
+    by false e = e ∙ sym (zero-add (sum_by (λ y. cond (p y) (f y) 0) xs))
 
 -- what passes a test is the same in some order too
 pub filter_shuffled : (p : ℕ → Bool) (xs ys : List ℕ) → IsPermutation xs ys → IsPermutation (filter p xs) (filter p ys)

@@ -50,20 +50,20 @@ reached-below all kind (name ∷ names) path = kinds-below kind (followed all (n
 
 nearest-below : (f : List Step → Option (List Step)) → ((path : List Step) → IsBelow (f path)) → (paths : List (List Step)) → IsBelow (nearest (map f paths))
 nearest-below f each [] = tt
-nearest-below f each (path ∷ paths) = at (f path) (each path)
+nearest-below f each (path ∷ paths) = at (nearest-below f each paths) (f path) (each path)
   where
-    at : (o : Option (List Step)) → IsBelow o → IsBelow (nearest (o ∷ map f paths))
-    at None p = nearest-below f each paths
-    at (Some found) p = p
+    at : IsBelow (nearest (map f paths)) → (o : Option (List Step)) → IsBelow o → IsBelow (nearest (o ∷ map f paths))
+    at others None p = others
+    at others (Some found) p = p
 
 find-below : (test : List Step → Bool) → test [] ≡ false → (paths : List (List Step)) → IsBelow (find test paths)
 find-below test none [] = tt
 find-below test none ([] ∷ paths) = subst (λ b. IsBelow (cond b (Some []) (find test paths))) (sym none) (find-below test none paths)
-find-below test none ((step ∷ path) ∷ paths) = by (test (step ∷ path))
+find-below test none ((step ∷ path) ∷ paths) = by (find-below test none paths) (test (step ∷ path))
   where
-    by : (b : Bool) → IsBelow (cond b (Some (step ∷ path)) (find test paths))
-    by true = tt
-    by false = find-below test none paths
+    by : IsBelow (find test paths) → (b : Bool) → IsBelow (cond b (Some (step ∷ path)) (find test paths))
+    by others true = tt
+    by others false = others
 
 second-below : (all : Rows) (kind : Kind) (names : List Written) (around : List (List Step)) → IsBelow (second_try all kind names around)
 unfolding second_try
@@ -127,7 +127,7 @@ module _ (all : Rows) (items : List Item) (numbered : AreNumbered all items) whe
     pub source_inside : (e d : ℕ) → e < length items → get_or sources e None ≡ Some d → d < length items
     source_inside e d inside is = elim (cases_lt d (length items)) [
       | inl p ↦ p
-      | inr past ↦ absurd (subst IsBelow (sym (told_at all items numbered sources tells e inside) ∙ ap (option_map (path_at all)) is ∙ ap Some (get_or_past (paths_of all) d (omega (arith, past, as_many all items numbered)))) (source-below all (path_at all e)))
+      | inr past ↦ absurd (subst IsBelow (sym (told_at all items numbered sources tells e inside) ∙ ap (option_map (path_at all)) is ∙ ap Some (get_or_past (paths_of all) d [] (omega (arith, past, as_many all items numbered)))) (source-below all (path_at all e)))
     ]
 
     module _ (elements : List Element) (graph : IsGraph items sources elements) where

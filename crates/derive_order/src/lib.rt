@@ -5,5 +5,5 @@
 mod arranged;
 mod fault;
 
-pub use arranged::{Arranged, arranged};
+pub use arranged::{Arranged, arrange};
 pub use fault::OrderFault;

@@ -51,12 +51,7 @@ impl<'a> Index<'a> {
     }
 
     /// Puts a number there, in place of the one that stands there.
-    pub fn set(
-        &mut self,
-        owner: usize,
-        name: &'a [u8],
-        number: usize,
-    ) -> Result<(), NoMemory>
+    pub fn set(&mut self, owner: usize, name: &'a [u8], number: usize) -> Result<(), NoMemory>
         ensures { IfOk result (λ _. (other : ℕ) (text : List ℕ) → lookup (is_place other text) self.new ≡ (if is_place other text (owner, name.now) then Some number else lookup (is_place other text) self.old)) }
     {
         self.held.insert(Place { owner, name }, number)?;
