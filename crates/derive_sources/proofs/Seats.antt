@@ -146,7 +146,7 @@ fits-push (t ∷ tests) test (x ∷ path) s = ap (λ b. t x && b) (fits-push tes
     regroup true b c = refl
     regroup false b c = refl
 
-fits-nothing : (tests : List (Step → Bool)) (test : Step → Bool) → fits (tests ++ test ∷ []) [] ≡ false
+pub fits-nothing : (tests : List (Step → Bool)) (test : Step → Bool) → fits (tests ++ test ∷ []) [] ≡ false
 unfolding fits
 fits-nothing [] test = refl
 fits-nothing (t ∷ tests) test = refl
@@ -191,7 +191,7 @@ module _ (all : List (Row Step Key)) (items : List Item) (numbered : AreNumbered
   ]
 
   -- one step below an element
-  one-below : (test : Step → Bool) (of : Item → Bool) → ((s : Step) (item : Item) → item.kind ≡ Some s.kind → item.name ≡ s.name → test s ≡ of item) → (p : ℕ) → p < length items → (e : ℕ) → e < length items → fits (exactly same_step (path_at all p) ++ test ∷ []) (path_at all e) ≡ (is_number p (item_at items e).parent && of (item_at items e))
+  pub one-below : (test : Step → Bool) (of : Item → Bool) → ((s : Step) (item : Item) → item.kind ≡ Some s.kind → item.name ≡ s.name → test s ≡ of item) → (p : ℕ) → p < length items → (e : ℕ) → e < length items → fits (exactly same_step (path_at all p) ++ test ∷ []) (path_at all e) ≡ (is_number p (item_at items e).parent && of (item_at items e))
   unfolding same_path
   one-below test of agree p here e inside = at (item_at items e).parent (seat e inside)
     where

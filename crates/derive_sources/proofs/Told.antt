@@ -27,7 +27,7 @@ unfolding first_missing deriving_paths
 missing_found all = find-filter (λ path. is_none (source_of all path)) (λ path. is_some (source_names all path)) (paths_of all)
 
 module _ (all : Rows) (items : List Item) (numbered : AreNumbered all items) (found : List (Option ℕ)) (tells : TellsSources all found) where
-  told_at : (e : ℕ) → e < length items → option_map (path_at all) (get_or found e None) ≡ source_of all (path_at all e)
+  pub told_at : (e : ℕ) → e < length items → option_map (path_at all) (get_or found e None) ≡ source_of all (path_at all e)
   told_at e inside =
       sym (get_or-map (option_map (path_at all)) found e None None (omega (arith, inside, as_many all items numbered, long)))
       ∙ ap (λ l. get_or l e None) tells

@@ -58,7 +58,7 @@ impl Kind {
 }
 
 /// The element of a number, or the one of no kind where there is none.
-pub(crate) fn entry_at<'a>(entries: &[Entry<'a>], number: usize) -> Entry<'a>
+pub fn entry_at<'a>(entries: &[Entry<'a>], number: usize) -> Entry<'a>
     ensures { plain result ≡ item_at (map plain entries.now) number }
 {
     match entries.get(number) {

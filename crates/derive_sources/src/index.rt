@@ -20,7 +20,7 @@ struct Place<'a> {
 
 /// Numbers of elements by a name below another element. Contracts see it as a list of places with their numbers.
 #[derive(Drop)]
-pub(crate) struct Index<'a> {
+pub struct Index<'a> {
     held: IndexMap<Place<'a>, usize>,
 }
 
@@ -35,7 +35,7 @@ impl<'a> Model for Index<'a> {
 
 impl<'a> Index<'a> {
     /// No number.
-    pub(crate) fn new(alloc: Global) -> Index<'a>
+    pub fn new(alloc: Global) -> Index<'a>
         ensures { result ≡ [] }
     {
         Index {
@@ -44,19 +44,14 @@ impl<'a> Index<'a> {
     }
 
     /// The number that stands at a place.
-    pub(crate) fn get(&self, owner: usize, name: &[u8]) -> Option<usize>
+    pub fn get(&self, owner: usize, name: &[u8]) -> Option<usize>
         ensures { result ≡ lookup (is_place owner name.now) self.now }
     {
         self.held.get(&Place { owner, name }).copied()
     }
 
     /// Puts a number there, in place of the one that stands there.
-    pub(crate) fn set(
-        &mut self,
-        owner: usize,
-        name: &'a [u8],
-        number: usize,
-    ) -> Result<(), NoMemory>
+    pub fn set(&mut self, owner: usize, name: &'a [u8], number: usize) -> Result<(), NoMemory>
         ensures { IfOk result (λ _. (other : ℕ) (text : List ℕ) → lookup (is_place other text) self.new ≡ (if is_place other text (owner, name.now) then Some number else lookup (is_place other text) self.old)) }
     {
         self.held.insert(Place { owner, name }, number)?;

@@ -12,8 +12,9 @@ mod listing;
 mod source;
 
 pub use device::{Sourced, sources_of};
-pub use entry::{Entry, Kind};
+pub use entry::{Entry, Kind, entry_at};
 pub use finding::{SourceFault, sources};
 pub use graph::needs_of;
+pub use index::Index;
 pub use laws::numbers_law;
 pub use listing::entries_of;

@@ -19,7 +19,7 @@ use Rattle.svd_rows.specs.Paths.{begins, exactly, fits, is_within}
 use Rattle.svd_rows.specs.Rows.{Row, Said, element, states, is_element}
 
 -- a path that begins as another is that one and what is left of it
-begins-drop : (path other : List Step) → begins (exactly same_step path) other ≡ true → other ≡ path ++ drop (length path) other
+pub begins-drop : (path other : List Step) → begins (exactly same_step path) other ≡ true → other ≡ path ++ drop (length path) other
 unfolding begins
 begins-drop [] other e = refl
 begins-drop (step ∷ path) [] e = absurd (true≢false (sym e))

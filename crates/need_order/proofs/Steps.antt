@@ -6,8 +6,8 @@ use Rattle.std.proofs.lemmas.List.Sums.{sum_by-cons}
 use Rattle.std.proofs.lemmas.Option.{slice_get-get_or}
 use Rattle.std.specs.List.{list_any}
 use Rattle.need_order.specs.declared.element.Element.{Element}
-use Rattle.need_order.specs.Below.{IsSumAt, flag_weight, weigh}
-use Rattle.need_order.specs.Children.{AreChildren}
+use Rattle.need_order.specs.Below.{IsSumAt, weigh}
+use Rattle.need_order.specs.Children.{AreChildren, flag_weight}
 use Rattle.need_order.specs.Needs.{among, needs, IsOrder}
 use Rattle.need_order.specs.Settling.{Follows}
 use Rattle.need_order.proofs.Following.{order_follows}

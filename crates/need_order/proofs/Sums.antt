@@ -1,12 +1,12 @@
 -- Sums over the children of elements, along an order.
-use Rattle.std.proofs.Common.{◌≡◌, inl, inr, ℕ, ◌+◌, ◌-◌, ◌^◌, ◌<◌, ◌≤◌, min, true, nat_eq, List, [], ◌∷◌, ◌++◌, length, take, drop, take-append-drop, get_or, set, sum_by, Option, Some, None, slice_get, refl, sym, ap, ap₂, ◌∙◌, subst, arith, append_assoc, Vec}
+use Rattle.std.proofs.Common.{◌≡◌, inl, inr, ℕ, ◌+◌, ◌-◌, ◌^◌, ◌<◌, ◌≤◌, min, Bool, true, false, nat_eq, List, [], ◌∷◌, ◌++◌, length, take, drop, take-append-drop, get_or, set, sum_by, Option, Some, None, slice_get, refl, sym, ap, ap₂, ◌∙◌, subst, arith, append_assoc, Vec}
 use Rattle.std.proofs.lemmas.Bool.{cases_eq, true≢false}
 use Rattle.std.proofs.lemmas.List.{get_or-set_same, get_or-set_other, take_more}
 use Rattle.std.proofs.lemmas.List.Sorted.{list_any-IsPermutation, sum_by-IsPermutation}
 use Rattle.std.proofs.lemmas.List.Sums.{sum_by-append, sum_by-cons}
 use Rattle.need_order.specs.declared.element.Element.{Element}
 use Rattle.need_order.specs.Below.{IsSumAt, base_sum, begun_sum, begun_sum_in, weigh}
-use Rattle.need_order.specs.Children.{AreChildren, begun, begun_in, items_at, of_base, size, size_made, told}
+use Rattle.need_order.specs.Children.{AreChildren, begun, begun_in, flag_weight, items_at, of_base, size, size_made, told}
 use Rattle.need_order.specs.Levels.{IsMadeOfNeeds}
 use Rattle.need_order.specs.Needs.{among, needs, needs_in, with_base}
 use Rattle.need_order.specs.Settling.{Follows}
@@ -126,19 +126,23 @@ told_more past value_of order i values value inside fits so_far is e there = eli
 
 -- ---- sizes
 
-size-uses : (children : ℕ → List ℕ) → IsMadeOfNeeds (λ e. e) children (size_made children)
-size-uses children f g e h = ap (λ n. 1 + n) (sum_agree f g (children e) h)
+size-uses : (flags : List Bool) (children : ℕ → List ℕ) → IsMadeOfNeeds (λ e. e) children (size_made flags children)
+size-uses flags children f g e h = ap (λ n. flag_weight (get_or flags e false) + n) (sum_agree f g (children e) h)
 
 -- sums that end at a greatest number
 sum_told : (top : ℕ) (f : ℕ → ℕ) (xs : List ℕ) → min (sum_by (λ x. min (f x) top) xs) top ≡ min (sum_by f xs) top
 sum_told top f [] = refl
 sum_told top f (x ∷ xs) = omega (arith, sum_by-cons (λ y. min (f y) top) x xs, sum_by-cons f x xs, sum_told top f xs)
 
-one_more : (top a b : ℕ) → min a top ≡ min b top → min (1 + a) top ≡ min (1 + b) top
-one_more top a b h = omega (arith, h)
+one_more : (top w a b : ℕ) → min a top ≡ min b top → min (w + a) top ≡ min (w + b) top
+one_more top w a b h = omega (arith, h)
 
 -- the size of an element by those of its children
-pub size_here : (children : ℕ → List ℕ) (n : ℕ) (order : List ℕ) (e : ℕ) → Follows children [] order → length order ≤ n → among e order ≡ true → told (1 + sum_by (λ d. told (size children n d)) (children e)) ≡ told (size children n e)
-size_here children n order e follows enough there =
-    one_more (2 ^ 64 - 1) (sum_by (λ d. told (size children n d)) (children e)) (sum_by (size children n) (children e)) (sum_told (2 ^ 64 - 1) (size children n) (children e))
-    ∙ ap told (sym (made_along (λ d. d) children (size_made children) 0 (size-uses children) order follows n enough e there))
+pub size_is : (flags : List Bool) (children : ℕ → List ℕ) (n : ℕ) (order : List ℕ) (e : ℕ) → Follows children [] order → length order ≤ n → among e order ≡ true → size flags children n e ≡ size_made flags children (size flags children n) e
+size_is flags children n order e follows enough there = made_along (λ d. d) children (size_made flags children) 0 (size-uses flags children) order follows n enough e there
+
+-- the same, where counts stay at the greatest
+pub size_here : (flags : List Bool) (children : ℕ → List ℕ) (n : ℕ) (order : List ℕ) (e : ℕ) → Follows children [] order → length order ≤ n → among e order ≡ true → told (flag_weight (get_or flags e false) + sum_by (λ d. told (size flags children n d)) (children e)) ≡ told (size flags children n e)
+size_here flags children n order e follows enough there =
+    one_more (2 ^ 64 - 1) (flag_weight (get_or flags e false)) (sum_by (λ d. told (size flags children n d)) (children e)) (sum_by (size flags children n) (children e)) (sum_told (2 ^ 64 - 1) (size flags children n) (children e))
+    ∙ ap told (sym (size_is flags children n order e follows enough there))

@@ -1,5 +1,5 @@
 -- What the children of an element weigh together, by what those of its base weigh.
-use Rattle.std.specs.Prelude.{◌≡◌, ℕ, ◌+◌, Bool, true, false, List, Option, Some, None, slice_get, get_or, sum_by, Vec}
+use Rattle.std.specs.Prelude.{◌≡◌, ℕ, ◌+◌, List, Option, Some, None, slice_get, get_or, sum_by, Vec}
 use Rattle.need_order.specs.declared.element.Element.{Element}
 use Rattle.need_order.specs.Children.{items_at}
 
@@ -23,8 +23,3 @@ begun_sum elements weights sums e = begun_sum_in weights sums (slice_get element
 -- with what is dropped it is what the element begins with
 abbrev pub IsSumAt : {Z : Type 0} → List Element → List (Vec ℕ Z) → List ℕ → List ℕ → ℕ → ℕ → Type 0
 IsSumAt elements dropped weights sums e sum = sum + sum_by (weigh weights) (items_at dropped e) ≡ begun_sum elements weights sums e
-
--- 1 for a flag that is set
-abbrev pub flag_weight : Bool → ℕ
-flag_weight true = 1
-flag_weight false = 0

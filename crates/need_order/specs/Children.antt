@@ -33,21 +33,26 @@ AreChildren elements dropped children = (e : ℕ) → IsPermutation (begun eleme
 abbrev pub told : ℕ → ℕ
 told count = min count (2 ^ 64 - 1)
 
-abbrev pub size_made : (ℕ → List ℕ) → (ℕ → ℕ) → ℕ → ℕ
-size_made children below e = 1 + sum_by below (children e)
+-- 1 for a flag that is set
+abbrev pub flag_weight : Bool → ℕ
+flag_weight true = 1
+flag_weight false = 0
 
--- how many elements stand at an element and so many levels down
-abbrev pub size : (ℕ → List ℕ) → ℕ → ℕ → ℕ
-size children = by_levels (size_made children) 0
+abbrev pub size_made : List Bool → (ℕ → List ℕ) → (ℕ → ℕ) → ℕ → ℕ
+size_made flags children below e = flag_weight (get_or flags e false) + sum_by below (children e)
+
+-- how many elements whose flags are set stand at an element and so many levels down
+abbrev pub size : List Bool → (ℕ → List ℕ) → ℕ → ℕ → ℕ
+size flags children = by_levels (size_made flags children) 0
 
 -- as many elements as these stand one below the other below an element
 unfoldable pub is_deep : (ℕ → List ℕ) → ℕ → ℕ → Bool
 is_deep children zero e = true
 is_deep children (suc levels) e = list_any (is_deep children levels) (children e)
 
--- each of the first n elements is counted, itself and what is below it
-abbrev pub Counts : (ℕ → List ℕ) → ℕ → List ℕ → Type 0
-Counts children n counts = (e : ℕ) → e < n → slice_get counts e ≡ Some (told (size children n e))
+-- of each of the first n elements it is told how many whose flags are set stand there, itself and what is below it
+abbrev pub Counts : List Bool → (ℕ → List ℕ) → ℕ → List ℕ → Type 0
+Counts flags children n counts = (e : ℕ) → e < n → slice_get counts e ≡ Some (told (size flags children n e))
 
 -- of each of the first n elements it is told whether so many stand below it one below the other
 abbrev pub Flags : (ℕ → List ℕ) → ℕ → ℕ → List Bool → Type 0

@@ -1,7 +1,6 @@
 ghost use Rattle.std.specs.Prelude.{◌≡◌, ◌<◌, ℕ, List, length, map, false, get_or, IfOk};
 ghost use Rattle.std.specs.List.{list_any};
-ghost use Rattle.need_order.specs.Below.{flag_weight};
-ghost use Rattle.need_order.specs.Children.{AreChildren, Deepens, Flags};
+ghost use Rattle.need_order.specs.Children.{AreChildren, Deepens, Flags, flag_weight};
 ghost use Rattle.need_order.specs.Needs.{IsOrder, needs};
 
 use crate::below::sum_at;

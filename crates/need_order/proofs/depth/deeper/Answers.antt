@@ -1,7 +1,8 @@
 -- One more element is told, and in the end all are.
 use Rattle.std.proofs.Common.{ℕ, Bool, false, length, get_or, nat_lt, sum_by, length-set, ap, ◌∙◌, arith, List}
 use Rattle.std.specs.List.{list_any}
-use Rattle.need_order.specs.Below.{flag_weight, weigh}
+use Rattle.need_order.specs.Below.{weigh}
+use Rattle.need_order.specs.Children.{flag_weight}
 use Rattle.need_order.proofs.Steps.{all_told, inside_at, some_flag, sum_next, weight_of_flag}
 use Rattle.need_order.proofs.Sums.{told_more}
 use Rattle.need_order.proofs.depth.deeper.Goals as goal

@@ -1,7 +1,7 @@
 -- Sums and flags are told of the elements so far.
 use Rattle.std.proofs.Common.{◌≡◌, ℕ, true, false, length, take, get_or, sum_by}
 use Rattle.std.specs.List.{list_any}
-use Rattle.need_order.specs.Below.{flag_weight}
+use Rattle.need_order.specs.Children.{flag_weight}
 use Rattle.need_order.specs.Needs.{among}
 use Rattle.need_order.proofs.depth.deeper.Given as goal
 
