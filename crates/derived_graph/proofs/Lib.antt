@@ -1,0 +1,6 @@
+pub mod Parts
+pub mod Merging
+pub mod Own
+pub mod Along
+pub mod Unfolding
+pub mod Taking
