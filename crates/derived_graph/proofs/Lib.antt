@@ -4,3 +4,6 @@ pub mod Own
 pub mod Along
 pub mod Unfolding
 pub mod Taking
+pub mod Apart
+pub mod SameKind
+pub mod Taken

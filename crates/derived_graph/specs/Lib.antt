@@ -1,3 +1,4 @@
 pub mod Graphs
 pub mod Places
+pub mod Nesting
 pub mod Laws
