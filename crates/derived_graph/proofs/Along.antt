@@ -23,7 +23,7 @@ use Rattle.svd_model.specs.Steps.{Step, same_step}
 use Rattle.svd_rows.specs.LookUps.{keys_of}
 use Rattle.svd_rows.proofs.Lists.{map-map}
 
-member-at : (paths : List (List Step)) (e : ℕ) → e < length paths → IsAmong paths (get_or paths e [])
+pub member-at : (paths : List (List Step)) (e : ℕ) → e < length paths → IsAmong paths (get_or paths e [])
 member-at [] e h = absurd (omega (arith, h))
 member-at (path ∷ paths) zero h = member-head same_path same_path-tells path paths
 member-at (path ∷ paths) (suc e) h = member-tail same_path same_path-tells path paths (get_or paths e []) (member-at paths e (omega (arith, h)))

@@ -29,7 +29,7 @@ other_name s t e = by (same_name t s) refl
 unlike : (s t u v : Step) → same_name s t ≡ false → s.name ≡ u.name → t.name ≡ v.name → same_name u v ≡ false
 unlike s t u v e p q = ap₂ bytes_eq (sym p) (sym q) ∙ e
 
-all_append : {A : Type 0} (P : A → Type 0) (xs ys : List A) → AllByRecursion P xs → AllByRecursion P ys → AllByRecursion P (xs ++ ys)
+pub all_append : {A : Type 0} (P : A → Type 0) (xs ys : List A) → AllByRecursion P xs → AllByRecursion P ys → AllByRecursion P (xs ++ ys)
 all_append P [] ys h k = k
 all_append P (x ∷ xs) ys h k = (h.0, all_append P xs ys h.1 k)
 

@@ -7,3 +7,5 @@ pub mod Taking
 pub mod Apart
 pub mod SameKind
 pub mod Taken
+pub mod Standing
+pub mod Derived

@@ -1,10 +1,11 @@
 -- What holds of keys that are taken.
-use Rattle.std.proofs.Common.{◌≡◌, ◌⊎◌, inl, inr, Bool, true, false, ◌||◌, cond, nat_eq, nat_lt, List, [], ◌∷◌, refl, sym, ap, ◌∙◌}
+use Rattle.std.proofs.Common.{◌≡◌, ◌⊎◌, inl, inr, zero, suc, ◌+◌, Bool, true, false, ◌||◌, cond, nat_eq, nat_lt, List, [], ◌∷◌, ◌++◌, length, get_or, refl, sym, ap, ◌∙◌, arith}
 use Rattle.std.specs.List.{AllByRecursion, list_any}
 use Rattle.std.proofs.lemmas.Bool.{or_cases, cases_Bool, eqb-true, true≢false}
 use Rattle.derived_rows.specs.Merging.{stays_behind, is_stated, with_taken, taken}
 use Rattle.svd_model.specs.Facts.{is_offset}
 use Rattle.svd_model.specs.Keys.{Key, rank, at_offset}
+use Rattle.svd_model.specs.Steps.{Step}
 use Rattle.svd_rows.specs.Ranks.{set_key}
 
 module _ (P : Key → Type 0) where
@@ -38,7 +39,7 @@ or-true : (b : Bool) → (b || true) ≡ true
 or-true true = refl
 or-true false = refl
 
-or-right : (a b : Bool) → b ≡ true → (a || b) ≡ true
+pub or-right : (a b : Bool) → b ≡ true → (a || b) ≡ true
 or-right true b e = refl
 or-right false b e = e
 
@@ -114,3 +115,21 @@ module _ (marked : Bool) where
       at p true f c e = absurd (true≢false f)
       at p false f true e = stated-offset own key p e
       at p false f false e = set-offset key own p
+
+-- ---- last steps
+
+pub no_push : (path : List Step) (step : Step) → path ++ step ∷ [] ≡ [] → ⊥
+no_push [] step e = absurd cc
+no_push (s ∷ path) step e = absurd cc
+
+last : Step → List Step → Step
+last none [] = none
+last none (s ∷ path) = last s path
+
+last-push : (none : Step) (path : List Step) (step : Step) → last none (path ++ step ∷ []) ≡ step
+unfolding last
+last-push none [] step = refl
+last-push none (s ∷ path) step = last-push s path step
+
+pub last-same : (path other : List Step) (s t : Step) → path ++ s ∷ [] ≡ other ++ t ∷ [] → s ≡ t
+last-same path other s t e = sym (last-push s path s) ∙ ap (last s) e ∙ last-push s other t

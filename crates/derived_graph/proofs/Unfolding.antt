@@ -2,7 +2,7 @@
 use Rattle.std.proofs.Common.{◌≡◌, inl, inr, ℕ, zero, suc, ◌+◌, ◌<◌, ◌≤◌, Bool, true, false, cond, nat_lt, List, [], ◌∷◌, ◌++◌, map, take, length, Option, None, Some, option_map, refl, sym, ap, ap₂, ◌∙◌, subst, arith}
 use Rattle.std.specs.List.{AllByRecursion, find}
 use Rattle.std.proofs.lemmas.Bool.{lt-ltb, true≢false, cases_lt}
-use Rattle.derived_graph.specs.Graphs.{Child, IsGraph, NeedsSources, grown, unfolded}
+use Rattle.derived_graph.specs.Graphs.{Child, path_at, IsGraph, NeedsSources, grown, unfolded}
 use Rattle.derived_graph.specs.Laws.{AreApart, GraphUnfolds}
 use Rattle.derived_graph.proofs.Along.{count, rows_of, seen, AreInside, Grows, all-inside, all-grow}
 use Rattle.derived_graph.proofs.Parts.{Rows, parts_rows}
@@ -34,7 +34,7 @@ paths-under step (row ∷ all) = at row.said (paths-under step all)
     at (states key) e = e
 
 -- the paths of these elements have fewer steps
-abbrev IsShallow : ℕ → Rows → Type 0
+abbrev pub IsShallow : ℕ → Rows → Type 0
 IsShallow levels all = AllByRecursion (λ path. length path < levels) (paths_of all)
 
 all-left : {X : Type 0} (P : X → Type 0) (xs ys : List X) → AllByRecursion P (xs ++ ys) → AllByRecursion P xs
@@ -49,7 +49,7 @@ one-less : (levels : ℕ) (step : Step) (paths : List (List Step)) → AllByRecu
 one-less levels step [] h = tt
 one-less levels step (path ∷ paths) h = (omega (arith, h.0), one-less levels step paths h.1)
 
-shallow-parts : (levels : ℕ) (keys : List Key) (parts : List Part) → IsShallow (suc levels) (element_rows keys parts) → AllByRecursion (λ (part : Part). IsShallow levels part.1) parts
+pub shallow-parts : (levels : ℕ) (keys : List Key) (parts : List Part) → IsShallow (suc levels) (element_rows keys parts) → AllByRecursion (λ (part : Part). IsShallow levels part.1) parts
 unfolding element_rows
 shallow-parts levels keys parts h =
     each parts (all-right (λ path. length path < suc levels) (paths_of (own keys)) (paths_of (parts_rows parts)) (subst (AllByRecursion (λ path. length path < suc levels)) (paths-append (own keys) (parts_rows parts)) h))
@@ -63,7 +63,7 @@ shallow-parts levels keys parts h =
           each parts (all-right (λ path. length path < suc levels) (paths_of (map (under part.0) part.1)) (paths_of (parts_rows parts)) both),
         )
 
-none-shallow : (keys : List Key) (parts : List Part) → IsShallow 0 (element_rows keys parts) → ⊥
+pub none-shallow : (keys : List Key) (parts : List Part) → IsShallow 0 (element_rows keys parts) → ⊥
 unfolding element_rows
 none-shallow keys parts h =
     let both = subst (AllByRecursion (λ path. length path < 0)) (paths-append (own keys) (parts_rows parts) ∙ ap (λ r. r ++ paths_of (parts_rows parts)) (paths-own keys)) h in
@@ -101,17 +101,20 @@ no-deep limit (path ∷ paths) e levels more = at (λ q. no-deep limit paths q l
         not_less : nat_lt limit (length path) ≡ false → length path ≤ limit
         not_less e = elim (cases_lt limit (length path)) [ inl less ↦ absurd (true≢false (sym (lt-ltb limit (length path) less) ∙ e)) | inr other ↦ other ]
 
-pub graph_unfolds : GraphUnfolds
+no_map : (o : Option (List Step)) → option_map (take 1) o ≡ None → o ≡ None
+no_map None e = refl
+no_map (Some path) e = absurd cc
+
+-- the derived rows have no path of more steps
+pub shallow-top : (all : Rows) → path_at all 0 ≡ [] → first_deep all ≡ None → (levels : ℕ) → step_limit < levels → IsShallow levels (derived_at all (length (paths_of all)) (path_at all 0))
 unfolding derived_rows first_deep
+shallow-top all top shallow levels enough =
+    subst (λ (path : List Step). IsShallow levels (derived_at all (length (paths_of all)) path)) (sym top)
+    (no-deep step_limit (paths_of (derived_at all (length (paths_of all)) [])) (no_map (find (λ path. nat_lt step_limit (length path)) (paths_of (derived_at all (length (paths_of all)) []))) shallow) levels enough)
+
+pub graph_unfolds : GraphUnfolds
+unfolding derived_rows
 graph_unfolds all found needs order keys children no_circle told needed ordered graph apart top some shallow levels enough =
     unfolds keys children (length (paths_of all)) (rows_of all no_circle found told top some) (all-inside all no_circle found told top some keys children graph apart needs order needed ordered) (all-grow all no_circle found told top some keys children graph apart needs order needed ordered)
-    levels 0 some
-    (subst (λ (path : List Step). IsShallow levels (rows_at path)) (sym top) (no-deep step_limit (paths_of (rows_at [])) (no_map (find (λ path. nat_lt step_limit (length path)) (paths_of (rows_at []))) shallow) levels enough))
-    ∙ ap rows_at top
-  where
-    rows_at : List Step → Rows
-    rows_at = derived_at all (length (paths_of all))
-
-    no_map : (o : Option (List Step)) → option_map (take 1) o ≡ None → o ≡ None
-    no_map None e = refl
-    no_map (Some path) e = absurd cc
+    levels 0 some (shallow-top all top shallow levels enough)
+    ∙ ap (derived_at all (length (paths_of all))) top

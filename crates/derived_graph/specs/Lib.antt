@@ -2,3 +2,4 @@ pub mod Graphs
 pub mod Places
 pub mod Nesting
 pub mod Laws
+pub mod Facts

@@ -1,3 +1,4 @@
+ghost use Rattle.derived_graph.specs.Facts.{GraphIsDerived};
 ghost use Rattle.derived_graph.specs.Laws.{GraphUnfolds};
 ghost use Rattle.derived_graph.specs.Places.{TakesByPlaces};
 
@@ -9,4 +10,9 @@ pub fn graph_law()
 /// The keys that an element takes from its source are taken place by place.
 pub fn places_law()
     ensures { TakesByPlaces }
+{}
+
+/// The graph of a described device that isn't refused unfolds to the tree of a derived one.
+pub fn derived_law()
+    ensures { GraphIsDerived }
 {}

@@ -3,4 +3,4 @@
 
 mod laws;
 
-pub use laws::{graph_law, places_law};
+pub use laws::{derived_law, graph_law, places_law};
