@@ -1,7 +1,6 @@
 -- Along an order in which each element stands behind its source, the rows of each are those of its keys and its children.
-use Rattle.std.proofs.Common.{◌≡◌, inl, inr, ℕ, zero, suc, ◌+◌, ◌<◌, ◌≤◌, true, List, [], ◌∷◌, ◌++◌, map, length, get_or, Option, None, Some, option_map, refl, sym, ap, ap₂, ◌∙◌, subst, arith, append_assoc, append-nil}
+use Rattle.std.proofs.Common.{◌≡◌, inl, inr, ℕ, zero, suc, ◌<◌, true, List, [], ◌∷◌, ◌++◌, map, length, get_or, Option, None, Some, option_map, refl, sym, ap, ap₂, ◌∙◌, subst, arith, append_assoc, append-nil}
 use Rattle.std.specs.List.{AllByRecursion, IsDistinct}
-use Rattle.std.specs.Set.{is_member}
 use Rattle.std.proofs.lemmas.Bool.{true≢false}
 use Rattle.std.proofs.lemmas.List.{get_or-map, length-map}
 use Rattle.derived_graph.specs.Graphs.{Child, TellsSources, path_at, own_children, source_at, keys_from, children_from, IsGraph, NeedsSources}
@@ -126,9 +125,9 @@ module _ (all : Rows) (no_circle : HasNoCircle all) (found : List (Option ℕ)) 
             let source = before s is in
             let keys_are : keys_of (rows_of s) ≡ keys s = ap keys_of source.2 ∙ keys_of-element (keys s) (map seen (children s)) in
             let parts_are : parts_of (rows_of s) ≡ map seen (children s) =
-                ap parts_of source.2
-                ∙ parts_of-element (keys s) (map seen (children s)) (all-whole (children s) source.1)
-                (subst (IsDistinct same_step) (sym (map-map (λ (part : Part). part.0) seen (children s))) (apart s source.0)) in
+            ap parts_of source.2
+            ∙ parts_of-element (keys s) (map seen (children s)) (all-whole (children s) source.1)
+            (subst (IsDistinct same_step) (sym (map-map (λ (part : Part). part.0) seen (children s))) (apart s source.0)) in
             ap₂ (λ ks ps. element_rows (taken (is_marked_at path) (keys_at all path) ks) (children_by (kind_at path) ps (own_parts all derived path))) keys_are parts_are
             ∙ ap (λ ps. element_rows (taken (is_marked_at path) (keys_at all path) (keys s)) ps)
             (ap (children_by (kind_at path) (map seen (children s))) (sym own) ∙ children-over rows_of (kind_at path) (children s) (own_children all e))

@@ -1,27 +1,26 @@
 -- The facts of a derived device hold of the graph, along an order, and so of its unfolding.
-use Rattle.std.specs.Prelude.{⊤}
-use Rattle.std.proofs.Common.{◌≡◌, ◌⊎◌, inl, inr, ℕ, zero, suc, ◌+◌, ◌<◌, ◌≤◌, ◌^◌, Bool, true, false, ◌&&◌, ◌||◌, cond, nat_eq, List, [], ◌∷◌, ◌++◌, map, filter, length, get_or, Option, None, Some, option_map, is_some, refl, sym, ap, ap₂, ◌∙◌, subst, arith}
+use Rattle.std.proofs.Common.{◌≡◌, ◌⊎◌, inl, inr, ℕ, zero, suc, ◌+◌, ◌<◌, ◌≤◌, ◌^◌, Bool, true, false, ◌&&◌, ◌||◌, cond, nat_eq, List, [], ◌∷◌, ◌++◌, map, filter, length, get_or, Option, None, Some, option_map, is_some, refl, sym, ap, ◌∙◌, subst, arith}
 use Rattle.std.specs.List.{AllByRecursion, IsDistinct, find, list_any}
 use Rattle.std.specs.Option.{is_none}
 use Rattle.std.specs.Str.{bytes_eq}
 use Rattle.std.proofs.lemmas.List.{get_or-map, length-map}
-use Rattle.std.proofs.lemmas.Bool.{or_cases, and_right, cases_Bool, true≢false, ne_eqb}
+use Rattle.std.proofs.lemmas.Bool.{or_cases, and_right, true≢false, ne_eqb}
 use Rattle.derived_graph.specs.Facts.{GraphIsDerived}
-use Rattle.derived_graph.specs.Graphs.{Rows, Child, path_at, own_children, source_at, keys_from, children_from, IsGraph, TellsSources, NeedsSources, grown, unfolded}
-use Rattle.derived_graph.specs.Nesting.{is_child, ArePlaced, PlacedIn, IsNested}
+use Rattle.derived_graph.specs.Graphs.{Rows, Child, path_at, own_children, source_at, keys_from, children_from, IsGraph, TellsSources, NeedsSources, unfolded}
+use Rattle.derived_graph.specs.Nesting.{is_child, ArePlaced, IsNested}
 use Rattle.derived_graph.specs.Laws.{AreApart}
 use Rattle.derived_graph.proofs.Along.{along, member-at, rows_of, all-grow}
 use Rattle.derived_graph.proofs.Unfolding.{IsShallow, shallow-parts, none-shallow, shallow-top, graph_unfolds}
 use Rattle.derived_graph.proofs.Apart.{same_name, merged_apart}
 use Rattle.derived_graph.proofs.Merging.{each-by}
 use Rattle.derived_graph.proofs.SameKind.{source-kind}
-use Rattle.derived_graph.proofs.Standing.{ZeroAt, IsZero, AreChildren, StandsBelow, IsTold, Sits, names-apart, told-at, own-keys, own-children, own-sit}
-use Rattle.derived_graph.proofs.Taken.{has_offset, or-right, last-same, no_push, each-taken, taken-own, taken-source}
+use Rattle.derived_graph.proofs.Standing.{ZeroAt, AreChildren, StandsBelow, Sits, names-apart, told-at, own-keys, own-children, own-sit}
+use Rattle.derived_graph.proofs.Taken.{has_offset, or-right, last-same, no_push, each-taken, taken-source}
 use Rattle.derived_rows.specs.Dependence.{same_path, IsAmong, HasNoCircle, deriving_paths}
 use Rattle.derived_rows.specs.Deriving.{Part, derived_rows, element_rows}
 use Rattle.derived_rows.specs.Faults.{first_missing, first_deep}
-use Rattle.derived_rows.specs.Merging.{is_marked_at, taken, merged, renumbered, sets_of, children_by}
-use Rattle.derived_rows.specs.Sources.{stated_source, source_names, source_of, kind_at}
+use Rattle.derived_rows.specs.Merging.{is_marked_at, taken, merged, renumbered, children_by}
+use Rattle.derived_rows.specs.Sources.{stated_source, source_of, kind_at}
 use Rattle.derived_rows.proofs.Circles.{deriving-member}
 use Rattle.derived_rows.proofs.Kept.{kind-last}
 use Rattle.derived_rows.proofs.Paths.{same_path-tells, member-cases}
@@ -37,7 +36,7 @@ use Rattle.svd_model.proofs.Steps.{same_step-finer}
 use Rattle.svd_model.proofs.Walking.{paths-append, paths-own}
 use Rattle.svd_rows.specs.Elements.{Every}
 use Rattle.svd_rows.specs.Elements.{IsDistinct as AreDistinct}
-use Rattle.svd_rows.specs.Forest.{Tree, siblings}
+use Rattle.svd_rows.specs.Forest.{Tree}
 use Rattle.svd_rows.specs.LookUps.{is_element_of}
 use Rattle.svd_rows.specs.Rows.{own, rows, forest_rows}
 use Rattle.svd_rows.proofs.Counting.{count-rows}
@@ -326,8 +325,7 @@ module _ (tree : Tree Step Key) (found : List (Option ℕ)) (needs : ℕ → Lis
     below-facts zero e inside shallow = absurd (none-shallow (keys e) (map told_child (children e)) (subst (IsShallow 0) (grows e inside) shallow))
     below-facts (suc levels) e inside shallow =
         let fit = fits e inside in
-        let each = all (below-facts levels) (children e) fit.sit (shallow-parts levels (keys e) (map told_child (children e)) (subst (IsShallow (suc levels)) (grows e inside) shallow)) in
-        (
+        let each = all (below-facts levels) (children e) fit.sit (shallow-parts levels (keys e) (map told_child (children e)) (subst (IsShallow (suc levels)) (grows e inside) shallow)) in (
           IsDistinct-siblings same_key (map seen (children e)) (subst (IsDistinct same_key) (sym (map-map (λ (x : Step × Tree Step Key). x.0) seen (children e))) (different-apart (kind_at (at e)) (steps_of (children e)) fit.different)) each.0,
           Every-siblings (IsElement IsPlaced) (map seen (children e)) each.1,
         )

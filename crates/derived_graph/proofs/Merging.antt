@@ -3,7 +3,7 @@ use Rattle.std.proofs.Common.{◌≡◌, ℕ, ◌+◌, Bool, true, false, cond, 
 use Rattle.std.specs.List.{AllByRecursion}
 use Rattle.std.specs.Str.{bytes_eq}
 use Rattle.std.proofs.lemmas.List.{map-append}
-use Rattle.derived_rows.specs.Merging.{has_same_name, has_named, replaced_by, kept, added, merged, renumbered, sets_of, children_by}
+use Rattle.derived_rows.specs.Merging.{has_named, replaced_by, kept, added, merged, renumbered, sets_of, children_by}
 use Rattle.svd_model.specs.Steps.{Step, Kind, peripheral, cluster, register, field, set, value}
 
 module _ {X Y : Type 0} (f : X → Y) where

@@ -1,5 +1,5 @@
 -- The keys and the children that the rows of an element tell, where those of its children are whole.
-use Rattle.std.proofs.Common.{◌≡◌, Bool, true, false, ◌&&◌, cond, List, [], ◌∷◌, ◌++◌, map, filter, filter_map, length, drop, Option, refl, sym, ap, ap₂, ◌∙◌, map-id, append-nil}
+use Rattle.std.proofs.Common.{◌≡◌, Bool, true, false, ◌&&◌, List, [], ◌∷◌, ◌++◌, map, filter, filter_map, Option, refl, sym, ap, ap₂, ◌∙◌, map-id, append-nil}
 use Rattle.std.specs.List.{flat_map, AllByRecursion, IsDistinct}
 use Rattle.std.proofs.lemmas.Bool.{true≢false}
 use Rattle.std.proofs.lemmas.List.{map-append}
@@ -10,8 +10,8 @@ use Rattle.svd_model.specs.Steps.{Step, same_step}
 use Rattle.svd_model.proofs.Steps.{same_step-tells}
 use Rattle.svd_rows.specs.Forest.{leaf, steps}
 use Rattle.svd_rows.specs.LookUps.{inside, seen_below, top_key, child_step, keys_of, children_of}
-use Rattle.svd_rows.specs.Paths.{begins, exactly, is_within}
-use Rattle.svd_rows.specs.Rows.{Row, Said, element, states, own, under, rows, forest_rows}
+use Rattle.svd_rows.specs.Paths.{begins, is_within}
+use Rattle.svd_rows.specs.Rows.{Row, states, own, under, rows, forest_rows}
 use Rattle.svd_rows.proofs.Lists.{filter-map, map-map, map_agree, filter_all, filter_none}
 use Rattle.svd_rows.proofs.LookUps.{keys_of-rows, children_of-rows}
 

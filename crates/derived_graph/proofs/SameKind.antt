@@ -1,10 +1,10 @@
 -- A source is of the kind of what is derived from it.
 use Rattle.std.specs.Prelude.{⊤}
-use Rattle.std.proofs.Common.{◌≡◌, Bool, true, false, ◌&&◌, cond, List, [], ◌∷◌, ◌++◌, map, Option, None, Some, option_and_then, refl, sym, ap, ◌∙◌, subst, append_assoc}
+use Rattle.std.proofs.Common.{◌≡◌, Bool, true, false, cond, List, [], ◌∷◌, ◌++◌, map, Option, None, Some, option_and_then, refl, sym, ap, ◌∙◌, append_assoc}
 use Rattle.std.specs.List.{find}
 use Rattle.std.specs.Option.{option_or}
 use Rattle.std.proofs.lemmas.Bool.{and_parts, true≢false}
-use Rattle.derived_rows.specs.Sources.{has_name, is_set_named, named_child, followed, of_kind, reached, second_try, source_among, source_names, sought_from, source_of, kind_at, ancestors}
+use Rattle.derived_rows.specs.Sources.{has_name, is_set_named, followed, of_kind, reached, second_try, source_among, source_names, sought_from, source_of, kind_at, ancestors}
 use Rattle.pac_base.specs.declared.path.Step.{Step as Written}
 use Rattle.svd_model.specs.Keys.{Key}
 use Rattle.svd_model.specs.Properties.{nearest}

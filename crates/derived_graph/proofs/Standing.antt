@@ -1,10 +1,10 @@
 -- The elements of a tree by their numbers: what stands at each, and which children it has of its own.
 use Rattle.std.specs.Prelude.{⊤}
-use Rattle.std.proofs.Common.{◌≡◌, ◌⊎◌, inl, inr, ℕ, zero, suc, ◌+◌, ◌<◌, Bool, true, false, ◌&&◌, nat_eq, List, [], ◌∷◌, ◌++◌, map, length, get_or, Option, None, Some, refl, sym, ap, ap₂, ◌∙◌, subst, arith, map-id, eq-eqb}
+use Rattle.std.proofs.Common.{◌≡◌, ◌⊎◌, inl, inr, ℕ, zero, suc, ◌<◌, Bool, true, false, ◌&&◌, nat_eq, List, [], ◌∷◌, ◌++◌, map, length, get_or, Option, None, Some, refl, sym, ap, ap₂, ◌∙◌, subst, arith, map-id}
 use Rattle.std.specs.List.{AllByRecursion, IsDistinct}
 use Rattle.std.specs.Str.{bytes_eq}
 use Rattle.derived_graph.specs.Graphs.{Child, path_at, own_children}
-use Rattle.derived_graph.specs.Nesting.{is_child, ArePlaced, PlacedIn, IsNested}
+use Rattle.derived_graph.specs.Nesting.{is_child, PlacedIn, IsNested}
 use Rattle.derived_graph.proofs.Apart.{all_append, same_name}
 use Rattle.derived_graph.proofs.Own.{own-told, own-inside}
 use Rattle.derived_rows.specs.Sources.{children_at, kind_at}
@@ -150,13 +150,15 @@ module _ (tree : Tree Step Key) (distinct : AreDistinct same_key tree.below) (el
   unfolding visits_of kind_at
   told-at e inside =
       at-number (visit_at (rows tree)) (paths_of (rows tree)) e
-      (subst (AllByRecursion IsTold) (sym (walk-rows tree (IsDistinct-finer same_key same_step same_step-finer tree.below distinct)))
-      (record {
-        part = tree;
-        is = refl;
-        children = record { apart = distinct-steps tree.below distinct; kinds = nested-kinds None tree.below nested; zero = every-zero tree.below elements; placed = tt };
-        stands = inl refl;
-      }, told-in [] (tree.keys ∷ []) None tree.below distinct elements nested))
+      (subst (AllByRecursion IsTold) (sym (walk-rows tree (IsDistinct-finer same_key same_step same_step-finer tree.below distinct))) (
+        record {
+          part = tree;
+          is = refl;
+          children = record { apart = distinct-steps tree.below distinct; kinds = nested-kinds None tree.below nested; zero = every-zero tree.below elements; placed = tt };
+          stands = inl refl;
+        },
+        told-in [] (tree.keys ∷ []) None tree.below distinct elements nested,
+      ))
       inside
 
   pub own-keys : (e : ℕ) (inside : e < length (paths_of (rows tree))) → keys_at (rows tree) (path_at (rows tree) e) ≡ (told-at e inside).part.keys

@@ -1,10 +1,10 @@
 -- The graph, unfolded so many levels down, has the derived rows, where no path has more steps.
-use Rattle.std.proofs.Common.{◌≡◌, inl, inr, ℕ, zero, suc, ◌+◌, ◌<◌, ◌≤◌, Bool, true, false, cond, nat_lt, List, [], ◌∷◌, ◌++◌, map, take, length, Option, None, Some, option_map, refl, sym, ap, ap₂, ◌∙◌, subst, arith}
+use Rattle.std.proofs.Common.{◌≡◌, inl, inr, ℕ, zero, suc, ◌<◌, ◌≤◌, Bool, true, false, cond, nat_lt, List, [], ◌∷◌, ◌++◌, map, take, length, Option, None, Some, option_map, refl, sym, ap, ap₂, ◌∙◌, subst, arith}
 use Rattle.std.specs.List.{AllByRecursion, find}
 use Rattle.std.proofs.lemmas.Bool.{lt-ltb, true≢false, cases_lt}
-use Rattle.derived_graph.specs.Graphs.{Child, path_at, IsGraph, NeedsSources, grown, unfolded}
-use Rattle.derived_graph.specs.Laws.{AreApart, GraphUnfolds}
-use Rattle.derived_graph.proofs.Along.{count, rows_of, seen, AreInside, Grows, all-inside, all-grow}
+use Rattle.derived_graph.specs.Graphs.{Child, path_at, unfolded}
+use Rattle.derived_graph.specs.Laws.{GraphUnfolds}
+use Rattle.derived_graph.proofs.Along.{rows_of, all-inside, all-grow}
 use Rattle.derived_graph.proofs.Parts.{Rows, parts_rows}
 use Rattle.derived_rows.specs.Deriving.{Part, derived_at, derived_rows, element_rows}
 use Rattle.derived_rows.specs.Faults.{first_deep, step_limit}
@@ -14,7 +14,7 @@ use Rattle.svd_model.specs.Stating.{paths_of}
 use Rattle.svd_model.specs.Steps.{Step}
 use Rattle.svd_model.proofs.Walking.{paths-append, paths-own}
 use Rattle.svd_rows.specs.Forest.{Tree, siblings}
-use Rattle.svd_rows.specs.Rows.{Row, Said, element, states, is_element, own, under, rows, forest_rows}
+use Rattle.svd_rows.specs.Rows.{Said, element, states, is_element, own, under, rows, forest_rows}
 use Rattle.svd_rows.proofs.Lists.{map-map}
 
 -- the rows of siblings are those of each, under its step
@@ -57,8 +57,7 @@ shallow-parts levels keys parts h =
     each : (parts : List Part) → AllByRecursion (λ path. length path < suc levels) (paths_of (parts_rows parts)) → AllByRecursion (λ (part : Part). IsShallow levels part.1) parts
     each [] h = tt
     each (part ∷ parts) h =
-        let both = subst (AllByRecursion (λ path. length path < suc levels)) (paths-append (map (under part.0) part.1) (parts_rows parts)) h in
-        (
+        let both = subst (AllByRecursion (λ path. length path < suc levels)) (paths-append (map (under part.0) part.1) (parts_rows parts)) h in (
           one-less levels part.0 (paths_of part.1) (subst (AllByRecursion (λ path. length path < suc levels)) (paths-under part.0 part.1) (all-left (λ path. length path < suc levels) (paths_of (map (under part.0) part.1)) (paths_of (parts_rows parts)) both)),
           each parts (all-right (λ path. length path < suc levels) (paths_of (map (under part.0) part.1)) (paths_of (parts_rows parts)) both),
         )

@@ -8,7 +8,7 @@ use Rattle.derived_graph.specs.Graphs.{Rows, Child, path_at, IsGraph, TellsSourc
 use Rattle.need_order.specs.Needs.{IsOrder}
 use Rattle.svd_model.specs.Keys.{Key}
 use Rattle.svd_model.specs.Stating.{paths_of}
-use Rattle.svd_model.specs.Steps.{Step, same_step}
+use Rattle.svd_model.specs.Steps.{same_step}
 use Rattle.svd_rows.specs.Rows.{rows}
 
 -- the children of each element have different steps

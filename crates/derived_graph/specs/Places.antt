@@ -1,5 +1,5 @@
 -- Keys that an element takes, place by place: there is one place for each rank.
-use Rattle.std.specs.Prelude.{◌≡◌, ℕ, Bool, cond, List, [], ◌∷◌, length, Option, None, Some}
+use Rattle.std.specs.Prelude.{◌≡◌, Bool, cond, List, [], ◌∷◌, length, Option, None, Some}
 use Rattle.derived_rows.specs.Merging.{stays_behind, taken}
 use Rattle.svd_model.specs.Keys.{Key, rank}
 use Rattle.svd_rows.specs.Ranks.{stated, IsPlaced}
