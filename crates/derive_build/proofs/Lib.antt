@@ -1,4 +1,0 @@
-pub mod Listed
-pub mod Taken
-pub mod Spelling
-pub mod Named
