@@ -1,0 +1,11 @@
+pub mod Parts
+pub mod Merging
+pub mod Own
+pub mod Along
+pub mod Unfolding
+pub mod Taking
+pub mod Apart
+pub mod SameKind
+pub mod Taken
+pub mod Standing
+pub mod Derived

@@ -1,0 +1,5 @@
+pub mod Graphs
+pub mod Places
+pub mod Nesting
+pub mod Laws
+pub mod Facts
