@@ -3,3 +3,5 @@ pub mod IndexForms
 pub mod KeyForms
 pub mod Keeping
 pub mod Elements
+pub mod MergedKeys
+pub mod Putting

@@ -1,6 +1,8 @@
 -- The keys that texts set, one place for each rank, and what becomes of the keys of an element that stand so.
-use Rattle.std.specs.Prelude.{Bool, true, false, cond, List, [], ◌∷◌, ◌++◌, set, Option, None, Some, option_map}
+use Rattle.std.specs.Prelude.{◌≡◌, Bool, true, false, cond, List, [], ◌∷◌, ◌++◌, set, Option, None, Some, option_map}
 use Rattle.std.specs.Option.{option_or}
+use Rattle.svd_model.specs.declared.device.Dim.{Dim}
+use Rattle.svd_model.specs.declared.props.Props.{Props}
 use Rattle.svd_model.specs.Keys.{Key, device_name, derived_from, base_address, at_offset, bit_width, alternate_of, alternate_group, write_kind, read_action, rank}
 use Rattle.svd_model.specs.Trees.{dim_places, property_places}
 use Rattle.svd_schema.specs.declared.container.Container.{Container}
@@ -53,3 +55,20 @@ fitting _ = []
 -- the keys of an element of that kind, with those that fit over them
 abbrev pub merged : Container → KeyPlaces → KeyPlaces → KeyPlaces
 merged held new old = over (only (fitting held) new) old
+
+-- ---- values over old ones
+
+-- a value over an old one, where there is one
+abbrev pub IsOver : {A : Type 0} → Option A → Option A → Option A → Type 0
+IsOver value old new = new ≡ option_or value old
+
+pub record IsDimOver (value old new : Dim) : Type 0 where
+  pub count : IsOver value.count old.count new.count
+  pub step : IsOver value.step old.step new.step
+  pub index : IsOver value.index old.index new.index
+
+pub record ArePropsOver (value old new : Props) : Type 0 where
+  pub size : IsOver value.size old.size new.size
+  pub access : IsOver value.access old.access new.access
+  pub reset_value : IsOver value.reset_value old.reset_value new.reset_value
+  pub reset_mask : IsOver value.reset_mask old.reset_mask new.reset_mask

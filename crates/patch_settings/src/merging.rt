@@ -1,21 +1,28 @@
 ghost use Rattle.std.specs.Prelude.{◌≡◌, unwrap_or};
-ghost use Rattle.std.specs.Option.{option_or};
-ghost use Rattle.patch_settings.specs.Places.{merged, places};
+ghost use Rattle.patch_settings.specs.Places.{ArePropsOver, IsDimOver, IsOver, merged, places};
 ghost use Rattle.svd_model.specs.declared.device.Cluster.{out-Cluster};
 ghost use Rattle.svd_model.specs.Trees.{cluster_places, device_places, field_places, peripheral_places, register_places};
 ghost use Rattle.svd_schema.specs.declared.container.Container.TheVariants as container;
 
 use crate::settings::{Settings, put};
-use svd_model::{Cluster, Device, Dim, Field, Peripheral, Register};
+use pac_base::{Name, Path};
+use svd_model::{Cluster, Device, Dim, Field, Peripheral, Props, Register};
 
 fn put_dim(dim: &mut Dim, new: Dim)
-    ensures count { dim.new.count ≡ option_or new.count dim.old.count }
-    ensures step { dim.new.step ≡ option_or new.step dim.old.step }
-    ensures index { dim.new.index ≡ option_or new.index dim.old.index }
+    ensures { IsDimOver new dim.old dim.new }
 {
     put(&mut dim.count, new.count);
     put(&mut dim.step, new.step);
     put(&mut dim.index, new.index);
+}
+
+fn put_props(props: &mut Props, new: Props)
+    ensures { ArePropsOver new props.old props.new }
+{
+    put(&mut props.size, new.size);
+    put(&mut props.access, new.access);
+    put(&mut props.reset_value, new.reset_value);
+    put(&mut props.reset_mask, new.reset_mask);
 }
 
 // Another value in the place of an old one, where there is one.
@@ -43,7 +50,29 @@ pub(crate) fn in_peripheral(settings: Settings, peripheral: &mut Peripheral)
     put(&mut peripheral.derived, settings.derived);
     put_dim(&mut peripheral.dim, settings.dim);
     replace_number(&mut peripheral.base, settings.base);
-    peripheral.props = settings.props.within(&peripheral.props);
+    put_props(&mut peripheral.props, settings.props);
+}
+
+// Each key of a cluster by itself.
+fn put_in_cluster(
+    settings: Settings,
+    derived: &mut Option<Path>,
+    dim: &mut Dim,
+    offset: &mut u128,
+    alternate: &mut Option<Name>,
+    props: &mut Props,
+)
+    ensures derived { IsOver settings.derived derived.old derived.new }
+    ensures dim { IsDimOver settings.dim dim.old dim.new }
+    ensures offset { offset.new ≡ unwrap_or settings.place.offset offset.old }
+    ensures alternate { IsOver settings.alternate alternate.old alternate.new }
+    ensures props { ArePropsOver settings.props props.old props.new }
+{
+    put(derived, settings.derived);
+    put_dim(dim, settings.dim);
+    replace(offset, settings.place.offset);
+    put(alternate, settings.alternate);
+    put_props(props, settings.props);
 }
 
 /// The settings that a cluster has a place for, over its keys.
@@ -51,11 +80,14 @@ pub(crate) fn in_cluster(settings: Settings, cluster: &mut Cluster)
     ensures keys { cluster_places (out-Cluster cluster.new) ≡ merged container.Cluster (places settings) (cluster_places (out-Cluster cluster.old)) }
     ensures below { (out-Cluster cluster.new).children ≡ (out-Cluster cluster.old).children }
 {
-    put(&mut cluster.derived, settings.derived);
-    put_dim(&mut cluster.dim, settings.dim);
-    replace(&mut cluster.offset, settings.place.offset);
-    put(&mut cluster.alternate, settings.alternate);
-    cluster.props = settings.props.within(&cluster.props);
+    put_in_cluster(
+        settings,
+        &mut cluster.derived,
+        &mut cluster.dim,
+        &mut cluster.offset,
+        &mut cluster.alternate,
+        &mut cluster.props,
+    );
 }
 
 /// The settings that a register has a place for, over its keys.
@@ -68,7 +100,7 @@ pub(crate) fn in_register(settings: Settings, register: &mut Register)
     replace(&mut register.offset, settings.place.offset);
     put(&mut register.alternate, settings.alternate);
     put(&mut register.group, settings.group);
-    register.props = settings.props.within(&register.props);
+    put_props(&mut register.props, settings.props);
     put(&mut register.kind, settings.kind);
     put(&mut register.action, settings.action);
 }
@@ -93,5 +125,5 @@ pub(crate) fn in_device(settings: Settings, device: &mut Device)
     ensures below { device.new.peripherals ≡ device.old.peripherals }
 {
     replace(&mut device.name, settings.name);
-    device.props = settings.props.within(&device.props);
+    put_props(&mut device.props, settings.props);
 }

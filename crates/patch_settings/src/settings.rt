@@ -1,7 +1,6 @@
 ghost use Rattle.std.specs.Prelude.{◌≡◌, IfOk, OnOk, option_map};
-ghost use Rattle.std.specs.Option.{option_or};
 ghost use Rattle.patch_sem.specs.Settings.{key_set, keys_set, listed, of_place, set_by, set_in_role};
-ghost use Rattle.patch_settings.specs.Places.{none_placed, placed, places};
+ghost use Rattle.patch_settings.specs.Places.{IsOver, none_placed, placed, places};
 ghost use Rattle.svd_keys.specs.Forms.{path_of};
 ghost use Rattle.svd_model.specs.Keys.{derived_from};
 
@@ -41,7 +40,7 @@ pub(crate) struct Settings {
 
 /// A value in the place of an old one, where there is one.
 pub(crate) fn put<T: Drop>(place: &mut Option<T>, value: Option<T>)
-    ensures { place.new ≡ option_or value place.old }
+    ensures { IsOver value place.old place.new }
 {
     if let Some(value) = value {
         *place = Some(value);
@@ -49,7 +48,7 @@ pub(crate) fn put<T: Drop>(place: &mut Option<T>, value: Option<T>)
 }
 
 fn put_offset(place: &mut Option<u128>, value: Option<u64>)
-    ensures { place.new ≡ option_or value place.old }
+    ensures { IsOver value place.old place.new }
 {
     if let Some(value) = value {
         *place = Some(u128::from(value));
