@@ -17,8 +17,8 @@ use Rattle.svd_model.specs.declared.device.Item.{Item}
 use Rattle.svd_model.specs.declared.device.Peripheral.{Peripheral}
 use Rattle.svd_model.specs.declared.device.Register.{Register}
 use Rattle.svd_model.specs.Keys.{Key, rank}
-use Rattle.svd_model.specs.Steps.{Step}
-use Rattle.svd_model.specs.Trees.{cluster_places, cluster_tree, device_places, device_tree, field_places, field_tree, item_under, peripheral_places, peripheral_tree, peripheral_under, register_places, register_tree}
+use Rattle.svd_model.specs.Steps.{Step, set}
+use Rattle.svd_model.specs.Trees.{cluster_places, cluster_tree, device_places, device_tree, field_places, field_tree, field_under, item_under, numbered, peripheral_places, peripheral_tree, peripheral_under, register_places, register_tree, set_tree}
 use Rattle.svd_rows.specs.Forest.{Forest, Tree, siblings}
 use Rattle.svd_rows.specs.Ranks.{IsPlaced, stated}
 use Rattle.svd_schema.specs.declared.container.Container.{Container}
@@ -38,18 +38,18 @@ peripheral-set texts made old new settings keys below = record {
   below = ap (λ children. siblings (map item_under children.items)) below;
 }
 
-pub register-set : (texts : KeyList) (made : KeyPlaces) (old new : Register) → made ≡ placed (keys_set container.Register texts) none_placed → register_places new ≡ merged container.Register made (register_places old) → (register_tree new).below ≡ (register_tree old).below → IsSet container.Register texts (register_tree old) (register_tree new)
+pub register-set : (texts : KeyList) (made : KeyPlaces) (old new : Register) → made ≡ placed (keys_set container.Register texts) none_placed → register_places new ≡ merged container.Register made (register_places old) → new.fields ≡ old.fields → IsSet container.Register texts (register_tree old) (register_tree new)
 unfolding register_places over only fitting
 register-set texts made old new settings keys below = record {
   keys = merged-keys container.Register tt texts made (register_places old) (register_places new) refl refl (register-placed old) refl settings keys;
-  below = below;
+  below = ap (λ fields. siblings (map field_under fields.entries)) below;
 }
 
-pub field-set : (texts : KeyList) (made : KeyPlaces) (old new : Field) → made ≡ placed (keys_set container.Field texts) none_placed → field_places new ≡ merged container.Field made (field_places old) → (field_tree new).below ≡ (field_tree old).below → IsSet container.Field texts (field_tree old) (field_tree new)
+pub field-set : (texts : KeyList) (made : KeyPlaces) (old new : Field) → made ≡ placed (keys_set container.Field texts) none_placed → field_places new ≡ merged container.Field made (field_places old) → new.values ≡ old.values → IsSet container.Field texts (field_tree old) (field_tree new)
 unfolding field_places over only fitting
 field-set texts made old new settings keys below = record {
   keys = merged-keys container.Field tt texts made (field_places old) (field_places new) refl refl (field-placed old) refl settings keys;
-  below = below;
+  below = ap (λ values. numbered set 0 (map set_tree values.items)) below;
 }
 
 pub device-set : (texts : KeyList) (made : KeyPlaces) (old new : Device) → made ≡ placed (keys_set container.Device texts) none_placed → device_places new ≡ merged container.Device made (device_places old) → new.peripherals ≡ old.peripherals → IsSet container.Device texts (device_tree old) (device_tree new)

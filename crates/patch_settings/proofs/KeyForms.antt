@@ -239,6 +239,10 @@ ends-good (Some lsb) (Some msb) offset width low high at wide = between-good msb
 ends-good (Some lsb) None offset width low high at wide = parts-good offset width at (wide-enough width wide)
 ends-good None msb offset width low high at wide = parts-good offset width at (wide-enough width wide)
 
+range_of-good : (text : List ℕ) → AreGood of_field (of_range (range_of text))
+unfolding range_of
+range_of-good text = range-good text (read_place text) refl
+
 place-good : (keys : KeyList) → AreGood of_field (place_set keys)
 unfolding place_set
 place-good keys = cases (value_of key.BitRange keys)
@@ -246,13 +250,9 @@ place-good keys = cases (value_of key.BitRange keys)
     ends : AreGood of_field (by_ends (number_at key.Lsb keys) (number_at key.Msb keys) (number_at key.BitOffset keys) (number_at key.BitWidth keys))
     ends = ends-good (number_at key.Lsb keys) (number_at key.Msb keys) (number_at key.BitOffset keys) (number_at key.BitWidth keys) (stated_below key.Lsb keys) (stated_below key.Msb keys) (stated_below key.BitOffset keys) (stated_below key.BitWidth keys)
 
-    of_text : (text : List ℕ) → AreGood of_field (of_range (range_of text))
-    unfolding range_of
-    of_text text = range-good text (read_place text) refl
-
     cases : (text : Option (List ℕ)) → AreGood of_field (by_range text (by_ends (number_at key.Lsb keys) (number_at key.Msb keys) (number_at key.BitOffset keys) (number_at key.BitWidth keys)))
     cases None = ends
-    cases (Some text) = of_text text
+    cases (Some text) = range_of-good text
 
 -- ---- all keys
 

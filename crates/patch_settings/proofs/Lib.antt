@@ -5,3 +5,5 @@ pub mod Keeping
 pub mod Elements
 pub mod MergedKeys
 pub mod Putting
+pub mod LookingUp
+pub mod Gathering

@@ -1,20 +1,26 @@
 ghost use Rattle.std.specs.Prelude.{◌≡◌, option_map};
 ghost use Rattle.std.specs.Map.{lookup};
 ghost use Rattle.std.specs.Str.{bytes_eq};
-ghost use Rattle.patch_sem.specs.Settings.{by_ends, number_at, of_place, of_range, place_set, value_of};
+ghost use Rattle.patch_sem.specs.Settings.{by_ends, number_at, of_place, of_range, place_in, place_set, value_of};
 ghost use Rattle.svd_keys.specs.Forms.{range_of};
 
 use crate::form;
 use pac_base::Text;
-use svd_schema::Key;
+use svd_schema::{Container, Key};
 use svd_values::Place;
+
+fn is_key(key: &Text, name: &[u8]) -> bool
+    ensures { result ≡ bytes_eq name.now key.now }
+{
+    name == key.as_str().as_bytes()
+}
 
 // The value of the first key of that name.
 fn value_at<'a>(keys: &'a [(Text, Text)], name: &[u8]) -> Option<&'a Text>
     ensures { option_map (λ text. text.now) result ≡ lookup (bytes_eq name.now) keys.now }
 {
     for entry in keys {
-        if name == entry.0.as_str().as_bytes() {
+        if is_key(&entry.0, name) {
             return Some(&entry.1);
         }
     }
@@ -78,10 +84,10 @@ fn by_range(text: &Text) -> Place
     }
 }
 
-/// The place of a field that the keys set, in bits: by `bitRange`, or `lsb` with `msb`, or what stands of `bitOffset`
-/// and `bitWidth`; the first form that stands counts.
+// The place of a field: by `bitRange`, or `lsb` with `msb`, or what stands of `bitOffset` and `bitWidth`; the first form
+// that stands counts.
 #[tactic(auto, unfolding(patch_sem::specs::Settings::place_set))]
-pub(crate) fn place_set(keys: &[(Text, Text)]) -> Place
+fn place_set(keys: &[(Text, Text)]) -> Place
     ensures { of_place result ≡ place_set keys.now }
 {
     match value_of(keys, Key::BitRange) {
@@ -92,5 +98,23 @@ pub(crate) fn place_set(keys: &[(Text, Text)]) -> Place
             number_at(keys, Key::BitOffset),
             number_at(keys, Key::BitWidth),
         ),
+    }
+}
+
+/// The place that the keys set at an element of that kind, in bits; none but at a field.
+pub(crate) fn place_in(held: Container, keys: &[(Text, Text)]) -> Place
+    ensures { of_place result ≡ place_in held keys.now }
+{
+    match held {
+        Container::Field => place_set(keys),
+        Container::Device => stated(None, None),
+        Container::Peripherals => stated(None, None),
+        Container::Peripheral => stated(None, None),
+        Container::Registers => stated(None, None),
+        Container::Cluster => stated(None, None),
+        Container::Register => stated(None, None),
+        Container::Fields => stated(None, None),
+        Container::ValueSet => stated(None, None),
+        Container::Variant => stated(None, None),
     }
 }

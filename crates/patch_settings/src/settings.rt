@@ -6,7 +6,7 @@ ghost use Rattle.svd_model.specs.Keys.{derived_from};
 
 use crate::form;
 use crate::path::path;
-use crate::place::place_set;
+use crate::place::place_in;
 use pac_base::{Name, NoMemory, Path, Text};
 use std::alloc::Global;
 use svd_model::{Dim, Props};
@@ -99,9 +99,7 @@ impl Settings {
             let named = entry.0.as_str().as_bytes();
             made.put_text(alloc, held, named, entry.1.as_str().as_bytes())?;
         }
-        if held == Container::Field {
-            made.put_place(place_set(keys));
-        }
+        made.put_place(place_in(held, keys));
         Ok(made)
     }
 
@@ -113,7 +111,7 @@ impl Settings {
     }
 
     // The key that a text with its value sets.
-    #[tactic(auto, unfolding(patch_sem::specs::Settings::key_set))]
+    #[tactic(auto, unfolding(patch_sem::specs::Settings::key_set, crate::specs::Places::placed))]
     fn put_text(
         &mut self,
         alloc: Global,
@@ -142,6 +140,7 @@ impl Settings {
         Ok(())
     }
 
+    #[tactic(auto, unfolding(crate::specs::Places::placed))]
     fn put_in_role(
         &mut self,
         alloc: Global,
