@@ -71,13 +71,13 @@ module _ (line : ℕ) (pattern : PatternItems) (texts : KeyList) (keys : List Ke
   -- a child that is renamed, or not
   renamed-one : (s : Step) (ks : List Key) (c n front : Below) → is_patched s.kind ≡ true → IsDistinct same_step (join front (node s ks c n)) → AreRanked n → Goes n → (name : Option (List ℕ))
       → (renaming line s name (seen (join front (node s ks c n))) >>= modified_each line texts (left (steps n))) ≡ ((named line (steps front ++ steps n) s name >>= (λ new. changed_behind line pattern texts (steps front ++ new ∷ []) n >>= (λ rest. Ok (node new ks c rest)))) >>= (λ rest. Ok (seen (join front rest))))
+  unfolding steps
   renamed-one s ks c n front known distinct ranked goes None = behind-one s ks c n front distinct ranked goes
   renamed-one s ks c n front known distinct ranked goes (Some name) =
       ap (λ (b : Bool). refused_if b (AddExists line name) (Ok (under_name s name (seen (join front (node s ks c n))))) >>= modified_each line texts (left (steps n))) test
       ∙ cases (list_any (is_named name) (steps front ++ steps n)) refl
     where
       test : list_any (is_of_sibling name s) (children_of (seen (join front (node s ks c n)))) ≡ list_any (is_named name) (steps front ++ steps n)
-      unfolding steps
       test =
           ap (list_any (is_of_sibling name s)) (children_of-rows (tree_with keys (join front (node s ks c n))) ∙ steps-join front (node s ks c n))
           ∙ sibling-named name s (steps front) (steps n) (absent-before s ks c n front distinct) (absent-behind s ks c n front distinct)

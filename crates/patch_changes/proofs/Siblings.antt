@@ -195,5 +195,5 @@ fresh name s (x ∷ others) patched none =
     differ : (kind_is known_is name_is number_is : Bool) → (kind_is ≡ true → known_is ≡ true) → (known_is && name_is) ≡ false → (kind_is && (name_is && number_is)) ≡ false
     differ true true true number_is more none = cc
     differ true true false number_is more none = refl
-    differ true false name_is number_is more none = let no = more refl in cc
+    differ true false name_is number_is more none = let it = more refl in cc
     differ false known_is name_is number_is more none = refl

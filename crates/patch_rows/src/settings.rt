@@ -48,15 +48,27 @@ const PLACES: [(&[(&str, &str)], Option<u128>, Option<u128>); 7] = [
     (&[("bitOffset", "5"), ("bitWidth", "3")], Some(5), Some(3)),
     (&[("bitOffset", "5")], Some(5), None),
     (&[("bitWidth", "3")], Some(2), Some(3)),
-    (&[("bitOffset", "5"), ("bitRange", "[1:1]"), ("msb", "9")], Some(1), Some(1)),
-    (&[("derivedFrom", "A.B"), ("access", "read-only")], Some(2), None),
+    (
+        &[("bitOffset", "5"), ("bitRange", "[1:1]"), ("msb", "9")],
+        Some(1),
+        Some(1),
+    ),
+    (
+        &[("derivedFrom", "A.B"), ("access", "read-only")],
+        Some(2),
+        None,
+    ),
 ];
 
 #[test]
 fn the_place_of_a_field(rt: HostRuntime) -> Result<(), Fail> {
     for row in &PLACES {
         let mut element = field(rt.alloc(), Some(2), None);
-        set_field(rt.alloc(), keys(rt.alloc(), row.0)?.as_slice(), &mut element)?;
+        set_field(
+            rt.alloc(),
+            keys(rt.alloc(), row.0)?.as_slice(),
+            &mut element,
+        )?;
         assert!(rt; element.place.offset == row.1);
         assert!(rt; element.place.width == row.2);
     }
@@ -106,7 +118,11 @@ fn each_key_of_a_register(rt: HostRuntime) -> Result<(), Fail> {
         action: None,
         fields: IndexMap::new(rt.alloc()),
     };
-    set_register(rt.alloc(), keys(rt.alloc(), REGISTER)?.as_slice(), &mut element)?;
+    set_register(
+        rt.alloc(),
+        keys(rt.alloc(), REGISTER)?.as_slice(),
+        &mut element,
+    )?;
     assert!(rt; element.derived.is_some());
     assert!(rt; element.dim.count == Some(2));
     assert!(rt; element.dim.step == Some(16));
@@ -125,7 +141,15 @@ fn each_key_of_a_register(rt: HostRuntime) -> Result<(), Fail> {
 
 #[test]
 fn keys_of_peripherals_and_clusters(rt: HostRuntime) -> Result<(), Fail> {
-    let set = keys(rt.alloc(), &[("baseAddress", "0x40"), ("addressOffset", "4"), ("alternateCluster", "K"), ("size", "x")])?;
+    let set = keys(
+        rt.alloc(),
+        &[
+            ("baseAddress", "0x40"),
+            ("addressOffset", "4"),
+            ("alternateCluster", "K"),
+            ("size", "x"),
+        ],
+    )?;
     let mut peripheral = Peripheral {
         derived: None,
         dim: NO_DIM,
@@ -157,7 +181,10 @@ fn keys_of_the_device(rt: HostRuntime) -> Result<(), Fail> {
         props: NO_PROPS,
         peripherals: IndexMap::new(rt.alloc()),
     };
-    let set = keys(rt.alloc(), &[("name", "My device"), ("size", "32"), ("width", "8")])?;
+    let set = keys(
+        rt.alloc(),
+        &[("name", "My device"), ("size", "32"), ("width", "8")],
+    )?;
     set_device_keys(rt.alloc(), set.as_slice(), &mut device)?;
     assert!(rt; device.name.as_str() == "My device");
     assert!(rt; device.props.size == Some(32));

@@ -63,11 +63,11 @@ pub cluster-set : (texts : KeyList) (made : KeyPlaces) (old new : Cluster) → m
 unfolding cluster_places over only fitting
 cluster-set texts made old new settings keys below = record {
   keys =
-    ap (λ (tree : Tree Step Key). tree.keys) (cluster_tree-is new)
-    ∙ merged-keys container.Cluster tt texts made (cluster_places (out-Cluster old)) (cluster_places (out-Cluster new)) refl refl (cluster-placed (out-Cluster old)) refl settings keys
-    ∙ ap (keys_with (keys_set container.Cluster texts)) (sym (ap (λ (tree : Tree Step Key). tree.keys) (cluster_tree-is old)));
+      ap (λ (tree : Tree Step Key). tree.keys) (cluster_tree-is new)
+      ∙ merged-keys container.Cluster tt texts made (cluster_places (out-Cluster old)) (cluster_places (out-Cluster new)) refl refl (cluster-placed (out-Cluster old)) refl settings keys
+      ∙ ap (keys_with (keys_set container.Cluster texts)) (sym (ap (λ (tree : Tree Step Key). tree.keys) (cluster_tree-is old)));
   below =
-    ap (λ (tree : Tree Step Key). tree.below) (cluster_tree-is new)
-    ∙ ap (λ children. siblings (map item_under children.items)) below
-    ∙ sym (ap (λ (tree : Tree Step Key). tree.below) (cluster_tree-is old));
+      ap (λ (tree : Tree Step Key). tree.below) (cluster_tree-is new)
+      ∙ ap (λ children. siblings (map item_under children.items)) below
+      ∙ sym (ap (λ (tree : Tree Step Key). tree.below) (cluster_tree-is old));
 }

@@ -128,8 +128,8 @@ abbrev entry_fits : List Bool → (List ℕ × Role) → Bool
 entry_fits places entry = bytes_eq entry.0 (codes "name") || role_fits places entry.1
 
 either : (a b : Bool) → (a || b) ≡ true → a ≡ false → b ≡ true
-either true b is no = cc
-either false b is no = is
+either true b is isnt = cc
+either false b is isnt = is
 
 both : (a b : Bool) → (a && b) ≡ true → (a ≡ true) × (b ≡ true)
 both true b is = (refl, is)
@@ -192,6 +192,11 @@ key_set-good container.Peripheral is named text = below-device container.Periphe
 key_set-good container.Cluster is named text = below-device container.Cluster refl refl named text
 key_set-good container.Register is named text = below-device container.Register refl refl named text
 key_set-good container.Field is named text = below-device container.Field refl refl named text
+key_set-good container.Peripherals is named text = absurd is
+key_set-good container.Registers is named text = absurd is
+key_set-good container.Fields is named text = absurd is
+key_set-good container.ValueSet is named text = absurd is
+key_set-good container.Variant is named text = absurd is
 
 -- ---- the place of a field
 
@@ -270,6 +275,11 @@ place_in-good container.Peripheral is texts = tt
 place_in-good container.Cluster is texts = tt
 place_in-good container.Register is texts = tt
 place_in-good container.Field is texts = place-good texts
+place_in-good container.Peripherals is texts = absurd is
+place_in-good container.Registers is texts = absurd is
+place_in-good container.Fields is texts = absurd is
+place_in-good container.ValueSet is texts = absurd is
+place_in-good container.Variant is texts = absurd is
 
 -- each key that texts set is good at its kind
 pub keys_set-good : (held : Container) → IsSetAt held → (texts : KeyList) → AreGood (fitting held) (keys_set held texts)

@@ -19,7 +19,10 @@ pub fn set_peripheral(
 ) -> Result<(), NoMemory>
     ensures { IfOk result (λ done. IsSet container.Peripheral keys.now (peripheral_tree peripheral.old) (peripheral_tree peripheral.new)) }
 {
-    in_peripheral(Settings::of(alloc, Container::Peripheral, keys)?, peripheral);
+    in_peripheral(
+        Settings::of(alloc, Container::Peripheral, keys)?,
+        peripheral,
+    );
     Ok(())
 }
 

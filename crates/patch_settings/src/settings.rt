@@ -96,8 +96,7 @@ impl Settings {
     {
         let mut made = Settings::none();
         for entry in keys {
-            let named = entry.0.as_str().as_bytes();
-            made.put_text(alloc, held, named, entry.1.as_str().as_bytes())?;
+            made.put_entry(alloc, held, entry)?;
         }
         made.put_place(place_in(held, keys));
         Ok(made)
@@ -108,6 +107,18 @@ impl Settings {
     {
         put(&mut self.place.offset, place.offset);
         put(&mut self.place.width, place.width);
+    }
+
+    fn put_entry(
+        &mut self,
+        alloc: Global,
+        held: Container,
+        entry: &(Text, Text),
+    ) -> Result<(), NoMemory>
+        ensures { OnOk result (places self.new ≡ placed (listed (key_set held entry.now.0 entry.now.1)) (places self.old)) }
+    {
+        let named = entry.0.as_str().as_bytes();
+        self.put_text(alloc, held, named, entry.1.as_str().as_bytes())
     }
 
     // The key that a text with its value sets.

@@ -4,11 +4,11 @@ use Rattle.patch_settings.specs.Places.{places}
 use Rattle.patch_settings.proofs.settings.Settings.of.Goals as goal
 
 pub loop-entry-init : goal.loop-entry-init
-loop-entry-init c = gathered-start c.args.held c.args.keys.now (places c.none.result) c.none.ensures
+loop-entry-init c = gathered-start c.args.held c.args.keys.now (places c.none-made.result) c.none-made.ensures
 
 pub loop-entry-preserved : goal.loop-entry-preserved
 loop-entry-preserved c =
-    gathered-more c.args.held c.args.keys.now (places c.loop-entry.made) (places c.put_text.new.self) c.loop-entry.entry-index c.entry-item.result c.loop-entry-test.true c.entry-item.is c.in_ok-put_text.ensures c.loop-entry.invariant
+    gathered-more c.args.held c.args.keys.now (places c.loop-entry.made) (places c.put_entry.new.self) c.loop-entry.entry-index c.entry-item.result c.loop-entry-test.true c.entry-item.is c.in_ok-put_entry.ensures c.loop-entry.invariant
 
 pub returns : goal.returns
 returns c =
