@@ -1,4 +1,0 @@
-pub mod DeviceKeys
-pub mod Ranked
-pub mod Siblings
-pub mod Changing
