@@ -60,6 +60,7 @@ module _ (f : Below) (distinct : IsDistinct same_step f) where
       ∙ inside-context [] (rows (tree_with keys f)) (whole keys).before (whole keys).after (whole keys).elsewhere_before (whole keys).elsewhere_after
 
   put : (keys new : List Key) → put_inside [] (rows (tree_with new f)) (rows (tree_with keys f)) ≡ rows (tree_with new f)
+  unfolding within
   put keys new =
       ap (put_inside [] (rows (tree_with new f))) (whole keys).stands
       ∙ put-context [] keys f (rows (tree_with new f)) (whole keys).before (whole keys).after (whole keys).elsewhere_before (whole keys).elsewhere_after

@@ -76,7 +76,7 @@ module _ (s : Step) (ks : List Key) (c n : Below) where
   -- under a step that none of the others has, all are distinct still
   pub distinct-renamed : (new : Step) (front : Below) → IsAbsent same_step new front → IsAbsent same_step new n → IsDistinct same_step (join front (node s ks c n)) → IsDistinct same_step (join front (node new ks c n))
   unfolding IsDistinct steps join
-  distinct-renamed new leaf before behind distinct = (behind, distinct.1)
+  distinct-renamed new leaf before behind distinct = (behind, distinct.1, distinct.2)
   distinct-renamed new (node t ts d front) before behind distinct =
       (replaced-absent new t front (turned new t before.0) distinct.0, distinct.1, distinct-renamed new front before.1 behind distinct.2)
 
@@ -107,12 +107,12 @@ one-set keys s c n front one ks distinct ranked =
     (in_children-split same_step same_step-tells s (λ (tree : Tree Step Key). tree_with (set_key rank one tree.keys) tree.below) front (tree_with ks c) n (absent-before s ks c n front distinct) (absent-behind s ks c n front distinct))
 
 -- keys that are set among the rows are set in the tree
-pub all-set : (keys : List Key) (s : Step) (c n front : Below) (set : List Key) (ks : List Key) → IsDistinct same_step (join front (node s ks c n)) → IsRanked rank ks → with_keys (s ∷ []) set (rows (tree_with keys (join front (node s ks c n)))) ≡ rows (tree_with keys (join front (node s (keys_with set ks) c n)))
+pub all-set : (keys : List Key) (s : Step) (c n front : Below) (new : List Key) (ks : List Key) → IsDistinct same_step (join front (node s ks c n)) → IsRanked rank ks → with_keys (s ∷ []) new (rows (tree_with keys (join front (node s ks c n)))) ≡ rows (tree_with keys (join front (node s (keys_with new ks) c n)))
 unfolding with_keys keys_with
 all-set keys s c n front [] ks distinct ranked = refl
-all-set keys s c n front (one ∷ set) ks distinct ranked =
-    ap (with_keys (s ∷ []) set) (one-set keys s c n front one ks distinct ranked)
-    ∙ all-set keys s c n front set (set_key rank one ks) (distinct-keys s ks (set_key rank one ks) c n front distinct) (set-ranked one ks ranked)
+all-set keys s c n front (one ∷ new) ks distinct ranked =
+    ap (with_keys (s ∷ []) new) (one-set keys s c n front one ks distinct ranked)
+    ∙ all-set keys s c n front new (set_key rank one ks) (distinct-keys s ks (set_key rank one ks) c n front distinct) (set-ranked one ks ranked)
 
 -- ---- names of siblings
 
@@ -163,7 +163,7 @@ sibling-named name s front n before behind =
 -- ---- a name that no sibling has
 
 -- is it the number of a kind that patches know?
-known : ℕ → Bool
+abbrev known : ℕ → Bool
 known n = nat_le n 3
 
 by-number : (kind : Kind) → is_patched kind ≡ known (kind_number kind)
