@@ -11,4 +11,6 @@ mod patches;
 #[cfg(test)]
 mod patterns;
 #[cfg(test)]
+mod settings;
+#[cfg(test)]
 mod told;

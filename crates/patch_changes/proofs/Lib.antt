@@ -1,0 +1,4 @@
+pub mod DeviceKeys
+pub mod Ranked
+pub mod Siblings
+pub mod Changing

@@ -1,0 +1,9 @@
+pub mod Placing
+pub mod IndexForms
+pub mod KeyForms
+pub mod Keeping
+pub mod Elements
+pub mod MergedKeys
+pub mod Putting
+pub mod LookingUp
+pub mod Gathering
