@@ -330,7 +330,7 @@ plain-form : (kind : Kind) (name : List ℕ) (number : ℕ) (keys : List Key) �
 plain-form peripheral name number keys dims word placed may = (dims, word)
 plain-form cluster name number keys dims word placed may = inr (dims, word)
 plain-form register name number keys dims word placed may = inr (dims, word)
-plain-form field name number keys dims word placed may = ((dims, word), placed refl)
+plain-form field name number keys dims word placed may = (inr (dims, word), placed refl)
 plain-form set name number keys dims word placed may = absurd cc
 plain-form value name number keys dims word placed may = absurd cc
 
