@@ -5,8 +5,9 @@ use Rattle.std.proofs.lemmas.List.{drop_more}
 use Rattle.overlap_check.specs.declared.place.Place.{Place}
 use Rattle.overlap_check.specs.declared.rule.Rule.{Rule}
 use Rattle.overlap_check.specs.Walks.{entered, entered_by, fails, fails_field, first_in, first_at, first_below, named, or_else}
-use Rattle.overlap_check.proofs.Stated.{bits_at-field, dim-field, increment-field, size-field}
+use Rattle.overlap_check.proofs.Stated.{bits_at-field, size-field}
 use Rattle.pac_base.specs.declared.path.Step.{Step as Written}
+use Rattle.reg_table.proofs.FieldMembers.{field-dim, field-increment}
 use Rattle.svd_model.specs.declared.device.Field.{Field}
 use Rattle.svd_model.specs.declared.device.Values.{Values}
 use Rattle.svd_model.specs.declared.device.Variant.{Variant}
@@ -95,5 +96,5 @@ pub field-fails : (rule : Rule) (outer : Place) (key : Sibling) (element : Field
 unfolding fails
 field-fails rule outer key element =
     ap₂ (λ found rest. named key.name (cond found (Some []) rest))
-    (λ i. fails_field rule (size-entered (stated (field_places element)) outer (size-field element) i) (dim-field element i) (increment-field element i) (bits_at-field element i))
+    (λ i. fails_field rule (size-entered (stated (field_places element)) outer (size-field element) i) (field-dim element i) (field-increment element i) (bits_at-field element i))
     (sets-pass rule (entered (stated (field_places element)) outer) 0 element.values.items)

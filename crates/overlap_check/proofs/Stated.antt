@@ -150,17 +150,6 @@ bits_at-field element = λ i. record {
   width = (value_of-placed stated_width 7 width-alone 0 7 (field_places element) (omega arith) (field-placed element) ∙ width-again element.place.width) i;
 }
 
--- its members
-pub dim-field : (element : Field) → value_of stated_dim (stated (field_places element)) ≡ element.dim.count
-unfolding field_places
-dim-field element =
-    value_of-placed stated_dim 2 dim-alone 0 2 (field_places element) (omega arith) (field-placed element) ∙ dim-again element.dim.count
-
-pub increment-field : (element : Field) → value_of stated_increment (stated (field_places element)) ≡ element.dim.step
-unfolding field_places
-increment-field element =
-    value_of-placed stated_increment 3 increment-alone 0 3 (field_places element) (omega arith) (field-placed element) ∙ increment-again element.dim.step
-
 -- no field states a size of registers
 pub size-field : (element : Field) → value_of stated_size (stated (field_places element)) ≡ None
 unfolding field_places
