@@ -38,5 +38,9 @@ marked-accessor name dims (inr is) = word-accessor name is.1
 pub word-marker : (name : List ℕ) → IsWord name → name ≢ [] → IsIdentifier (marker_name (without_array_mark name))
 word-marker name word some = subst (λ (n : List ℕ). IsIdentifier (marker_name n)) (sym (word-unmarked name some word)) (markers_are name (word, some))
 
+pub marked-marker : (name : List ℕ) (dims : Bool) → (IsTrue dims × IsArrayName name) ⊎ ((dims ≡ false) × IsWord name) → name ≢ [] → IsIdentifier (marker_name (without_array_mark name))
+marked-marker name dims (inl is) some = markers_are (without_array_mark name) (subst IsSomeWord (sym (marked_off name is.1)) (is.1.begins, is.1.some))
+marked-marker name dims (inr is) some = word-marker name is.1 some
+
 pub word-slot : (name : List ℕ) → IsWord name → name ≢ [] → IsIdentifier (slot_name_of name)
 word-slot name word some = slots_are name (word, some)

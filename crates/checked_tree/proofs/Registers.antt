@@ -1,5 +1,5 @@
 -- What checking says of a declared register.
-use Rattle.std.proofs.Common.{◌≡◌, ℕ, ◌+◌, ◌/◌, ◌≤◌, ◌^◌, Bool, true, List, [], ◌∷◌, length, map, Option, None, unwrap_or, refl, sym, ap, ◌∙◌, subst, arith}
+use Rattle.std.proofs.Common.{◌≡◌, ℕ, ◌+◌, ◌/◌, ◌≤◌, ◌^◌, Bool, true, List, [], ◌∷◌, length, map, Option, Some, None, option_map, unwrap_or, refl, sym, ap, ◌∙◌, subst, arith}
 use Rattle.std.specs.List.{AllByRecursion}
 use Rattle.std.specs.Prelude.{⊤}
 use Rattle.std.proofs.lemmas.Bool.Decides.{nat_tests}
@@ -7,14 +7,14 @@ use Rattle.checked_tree.specs.Kinds.{AreOf}
 use Rattle.checked_tree.specs.Names.{accessor_names, marker_of}
 use Rattle.checked_tree.specs.Registers.{FieldHasNames, FieldIsNamed, RegisterIsChecked}
 use Rattle.checked_tree.proofs.Calls.{GiveNames, are-calls}
-use Rattle.checked_tree.proofs.Names.{word-accessor, word-marker}
+use Rattle.checked_tree.proofs.Names.{marked-accessor, marked-marker}
 use Rattle.checked_tree.proofs.Siblings.{AreNamed as AreAllNamed, are-siblings, tells-distinct}
 use Rattle.pac_base.specs.declared.width.Width.{Width}
 use Rattle.pac_base.specs.declared.width.Width.TheVariants.{W16, W32, W64, W8}
 use Rattle.pac_base.specs.Widths.{bits_of}
 use Rattle.overlap_check.specs.Meetings.{first_clash}
 use Rattle.reg_table.specs.Calls.{AreNamed, SetsAreNamed, plain_set, plain_value, serves_reading, serves_writing}
-use Rattle.reg_table.specs.Fields.{FieldFits as PlaceFits, field_part, field_row}
+use Rattle.reg_table.specs.Fields.{FieldFits as PlaceFits, field_dim, field_part, field_row}
 use Rattle.reg_table.specs.Registers.{register_row}
 use Rattle.reg_table.specs.Walk.{FitIn, props_inside}
 use Rattle.reg_table.specs.declared.row.FieldRow.{FieldRow}
@@ -86,14 +86,18 @@ unfolding siblings steps
 fields-named [] = tt
 fields-named (entry ∷ entries) = (refl, fields-named entries)
 
--- the written names of fields are words
+-- the written names of fields are words, those of arrays with a mark behind them
 words-of : (entries : List (Sibling × Field)) → Every IsUnfoldedElement (siblings (map field_under entries)) → AllByRecursion FieldHasNames (steps (siblings (map field_under entries)))
 unfolding siblings steps Every
 words-of [] every = tt
 words-of (entry ∷ entries) every =
-    (record { accessor = word-accessor entry.0.name every.0.form.0.1; marker = word-marker entry.0.name every.0.form.0.1 }, words-of entries every.2)
+    (record { accessor = marked-accessor entry.0.name _ every.0.form.0; marker = marked-marker entry.0.name _ every.0.form.0 }, words-of entries every.2)
 
 -- ---- the rows of fields
+
+members-some : (count step : Option ℕ) → 1 ≤ unwrap_or count 1 → 1 ≤ unwrap_or (option_map (λ dim. dim.count) (field_dim count step)) 1
+members-some None step some = some
+members-some (Some n) step some = some
 
 module _ (readable writable : Bool) (kind : Option WriteKind) where
   abbrev rows_for : List (Sibling × Field) → List FieldRow
@@ -129,10 +133,10 @@ module _ (readable writable : Bool) (kind : Option WriteKind) where
   named-of bits [] fits every = tt
   named-of bits (entry ∷ entries) fits every = (
     subst FieldIsNamed (sym (row-field entry.0 entry.1 readable writable kind fits.0.distinct)) (record {
-      free = (word-accessor entry.0.name every.0.form.0.1).free;
+      free = (marked-accessor entry.0.name _ every.0.form.0).free;
       tests = are-calls serves_reading is_call_name (unwrap_or entry.1.place.width 1) (map plain_set entry.1.values.items) (give-tests entry.1.values.items);
       sets = are-calls serves_writing variant_call_name (unwrap_or entry.1.place.width 1) (map plain_set entry.1.values.items) (give-sets entry.1.values.items fits.0.named);
-      alone = refl;
+      some = members-some entry.1.dim.count entry.1.dim.step fits.0.members;
     }),
     named-of bits entries fits.1 every.2,
   )

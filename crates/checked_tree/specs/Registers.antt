@@ -1,9 +1,10 @@
 -- What checking says of a register, wherever it stands.
-use Rattle.std.specs.Prelude.{◌≡◌, ◌≢◌, ◌≤◌, true, false, List, [], map, None}
+use Rattle.std.specs.Prelude.{◌≡◌, ◌≢◌, ◌≤◌, true, false, List, [], map, unwrap_or}
 use Rattle.std.specs.List.{AllByRecursion}
 use Rattle.checked_tree.specs.Kinds.{AreFields}
 use Rattle.checked_tree.specs.Names.{AreSiblings, HasAccessor, accessor_names, marker_names, marker_of}
 use Rattle.frag_sem.specs.Modules.{are_distinct_names}
+use Rattle.reg_table.specs.Members.{member_count}
 use Rattle.reg_table.specs.Registers.{register_row}
 use Rattle.reg_table.specs.declared.row.Call.{Call}
 use Rattle.reg_table.specs.declared.row.FieldRow.{FieldRow}
@@ -31,12 +32,12 @@ pub record AreCalls (calls : List Call) : Type 0 where
   pub distinct : are_distinct_names (map (λ call. call.name) calls) ≡ true
   pub named : AllByRecursion (λ call. IsCallName call.name) calls
 
--- a field's calls have names of their own, and it is no array: each member of one stands as a field by itself
+-- a field's calls have names of their own, and an array has a member
 pub record FieldIsNamed (field : FieldRow) : Type 0 where
   pub free : is_prelude_name field.name ≡ false
   pub tests : AreCalls field.is_calls
   pub sets : AreCalls field.set_calls
-  pub alone : field.dim ≡ None
+  pub some : 1 ≤ unwrap_or (member_count field) 1
 
 -- its accessor, and its marker, are names
 pub record FieldHasNames (step : Step) : Type 0 where

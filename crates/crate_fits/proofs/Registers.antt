@@ -1,7 +1,7 @@
 -- The register modules of an emitted crate keep the rules of typing.
-use Rattle.std.proofs.Common.{◌≡◌, ℕ, ◌+◌, ◌^◌, ◌<◌, ◌≤◌, true, false, not, ◌&&◌, List, [], ◌∷◌, length, map, Option, None, Some, option_map, refl, sym, ap, ap₂, ◌∙◌, subst, arith}
+use Rattle.std.proofs.Common.{◌≡◌, ℕ, ◌+◌, ◌^◌, ◌<◌, ◌≤◌, true, false, not, ◌&&◌, List, [], ◌∷◌, length, map, Option, None, Some, option_map, unwrap_or, refl, sym, ap, ap₂, ◌∙◌, subst, arith}
 use Rattle.std.specs.List.{AllByRecursion}
-use Rattle.std.proofs.lemmas.Bool.{false≢true}
+use Rattle.std.proofs.lemmas.Bool.Decides.{nat_tests}
 use Rattle.std.proofs.lemmas.List.{length-map}
 use Rattle.checked_tree.specs.Registers.{FieldIsNamed as RowIsNamed, RegisterIsChecked, row_of}
 use Rattle.checked_tree.specs.Names.{marker_of}
@@ -33,8 +33,9 @@ use Rattle.svd_model.specs.Steps.{Step}
 use Rattle.svd_rows.specs.Forest.{Forest, steps}
 use Rattle.svd_values.specs.AccessorNames.{accessor_name}
 use Rattle.svd_values.specs.Identifiers.{IsCallName}
-use Rattle.table_sem.specs.Members.{IsIndexOf, member_behind}
+use Rattle.reg_table.specs.Members.{IsIndexOf, member_behind}
 use Rattle.table_sem.specs.RowFacts.{FieldFits}
+use Rattle.table_sem.proofs.Rows.{index-admitted, member-narrow}
 
 -- ---- names
 
@@ -92,15 +93,14 @@ widest W64 = omega arith
 abbrev count_by : Option FieldDim → Option ℕ
 count_by dim = option_map (λ (array : FieldArray). array.count) (option_map field_array dim)
 
--- a field that is no array lies within the word
-within-by : (offset width bits : ℕ) (dim : Option FieldDim) → dim ≡ None → ((index : Option ℕ) → IsIndexOf (option_map (λ dim. dim.count) dim) index → offset + member_behind dim index + width ≤ bits) → (index : Option ℕ) → admits (count_by dim) index ≡ true → bit_in offset (option_map field_array dim) index + width ≤ bits
-within-by offset width bits (Some dim) none fits index h = absurd cc
-within-by offset width bits None none fits (Some index) h = absurd (false≢true h)
-within-by offset width bits None none fits None h = let here : offset + 0 + width ≤ bits = fits None tt in omega (arith, here)
+-- each member of a field lies within the word
+within-by : (offset width bits : ℕ) (dim : Option FieldDim) → ((index : Option ℕ) → IsIndexOf (option_map (λ dim. dim.count) dim) index → offset + member_behind dim index + width ≤ bits) → (index : Option ℕ) → admits (count_by dim) index ≡ true → bit_in offset (option_map field_array dim) index + width ≤ bits
+within-by offset width bits None fits index h = let here : offset + 0 + width ≤ bits = fits index (index-admitted None index h) in omega (arith, here)
+within-by offset width bits (Some dim) fits index h = fits index (index-admitted (Some dim.count) index h)
 
-some-by : (dim : Option FieldDim) → dim ≡ None → has_members (count_by dim) ≡ true
-some-by None none = refl
-some-by (Some dim) none = absurd cc
+some-by : (dim : Option FieldDim) → 1 ≤ unwrap_or (option_map (λ dim. dim.count) dim) 1 → has_members (count_by dim) ≡ true
+some-by None some = refl
+some-by (Some dim) some = grind (arith, nat_tests, some)
 
 -- ---- a register
 
@@ -115,8 +115,8 @@ module _ (props : Props) (step : Step) (keys : List Key) (children : Forest Step
 
   field-sound : (marker : List ℕ) (field : FieldRow) → FieldFits row field × RowIsNamed field → FieldIsSound (register_here props step keys children) (field_of marker field)
   field-sound marker field is =
-      let within = within-by field.offset field.width (bits_of row.width) field.dim is.1.alone is.0.within in
-      let first : field.offset + member_behind field.dim None + field.width ≤ bits_of row.width = is.0.within None (subst (λ (dim : Option FieldDim). IsIndexOf (option_map (λ dim. dim.count) dim) None) (sym is.1.alone) tt) in
+      let within = within-by field.offset field.width (bits_of row.width) field.dim is.0.within in
+      let first = member-narrow row field is.0 is.1.some in
       let most = widest row.width in
       record {
         bits = record { some = is.0.some; most = omega (arith, first, most) };
@@ -139,7 +139,7 @@ module _ (props : Props) (step : Step) (keys : List Key) (children : Forest Step
 
   field-named : (version : Version) (marker : List ℕ) (field : FieldRow) → RowIsNamed field → FieldIsNamed version (field_of marker field)
   field-named version marker field is = record {
-    some = some-by field.dim is.alone;
+    some = some-by field.dim is.some;
     free = free-of version field.name is.free;
     tests = ap are_distinct_names (calls-named field.is_calls) ∙ is.tests.distinct;
     free_tests = calls-free version field.is_calls is.tests.named;

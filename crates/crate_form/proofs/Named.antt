@@ -1,5 +1,5 @@
 -- The names of a register's fields are identifiers, so are their markers and the names of their calls; and each field has 1 to 64 bits.
-use Rattle.std.proofs.Common.{◌≡◌, ℕ, ◌≤◌, List, [], ◌∷◌, map, Option, None, option_map, refl, sym, ap, subst, arith, lit≤}
+use Rattle.std.proofs.Common.{◌≡◌, ℕ, ◌≤◌, List, [], ◌∷◌, map, refl, sym, ap, subst, arith, lit≤}
 use Rattle.std.specs.List.{AllByRecursion}
 use Rattle.checked_tree.specs.Names.{accessor_names}
 use Rattle.checked_tree.specs.Registers.{FieldHasNames, FieldIsNamed}
@@ -7,7 +7,6 @@ use Rattle.pac_base.specs.declared.width.Width.{Width}
 use Rattle.pac_base.specs.declared.width.Width.TheVariants.{W8, W16, W32, W64}
 use Rattle.pac_base.specs.Widths.{bits_of}
 use Rattle.reg_table.specs.declared.row.Call.{Call}
-use Rattle.reg_table.specs.declared.row.FieldDim.{FieldDim}
 use Rattle.reg_table.specs.declared.row.FieldRow.{FieldRow}
 use Rattle.reg_table.specs.declared.row.Row.{Row as TableRow}
 use Rattle.reg_table.specs.Walk.{props_inside}
@@ -22,8 +21,8 @@ use Rattle.svd_model.specs.Unbuilt.{register_under}
 use Rattle.svd_rows.specs.Forest.{siblings, steps}
 use Rattle.svd_rows.specs.Ranks.{stated}
 use Rattle.svd_values.specs.Identifiers.{IsCallName}
-use Rattle.table_sem.specs.Members.{IsIndexOf}
 use Rattle.table_sem.specs.RowFacts.{FieldFits}
+use Rattle.table_sem.proofs.Rows.{member-narrow}
 use Rattle.crate_form.specs.Elements.{CallIsNamed, FieldIsReady, HasName, IsMarked, StandsAlone, entry_marker, register_at}
 use Rattle.crate_form.specs.Registers.{field_of, marked, markers_of, row_here}
 use Rattle.crate_form.proofs.Standing.{checked-register}
@@ -84,8 +83,7 @@ unfolding marked
 bits_ready row [] fields fit named = tt
 bits_ready row (marker ∷ markers) [] fit named = tt
 bits_ready row (marker ∷ markers) (field ∷ fields) fit named =
-    let alone = subst (λ (dim : Option FieldDim). IsIndexOf (option_map (λ (dim : FieldDim). dim.count) dim) None) (sym named.0.alone) tt in
-    let within = fit.0.within None alone in
+    let within = member-narrow row field fit.0 named.0.some in
     let most = most_bits row.width in
     (record { some = fit.0.some; most = omega (arith, within, most) }, bits_ready row markers fields fit.1 named.1)
 

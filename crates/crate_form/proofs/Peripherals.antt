@@ -4,9 +4,9 @@ use Rattle.std.specs.List.{slice_get}
 use Rattle.checked_tree.specs.Devices.{ArePeripherals}
 use Rattle.checked_tree.proofs.Trees.{checked_trees}
 use Rattle.frag_tree.specs.declared.krate.Slot.{Slot}
-use Rattle.frag_tree.specs.declared.krate.Version.TheVariants.{One}
+use Rattle.frag_tree.specs.declared.krate.Version.{Version}
 use Rattle.frag_tree.specs.Trees.{BlockTree, CrateTree}
-use Rattle.reg_table.specs.Walk.{FitIn, stated_props}
+use Rattle.reg_table.specs.Walk.{FitIn}
 use Rattle.reg_table.proofs.Faults.{checked-fits}
 use Rattle.reg_table.proofs.Walks.{fit-others}
 use Rattle.svd_model.specs.declared.device.Device.{Device}
@@ -18,13 +18,11 @@ use Rattle.svd_model.specs.Keys.{Key}
 use Rattle.svd_model.specs.Steps.{Step}
 use Rattle.svd_model.specs.Trees.{device_rows, device_tree, peripheral_under}
 use Rattle.svd_rows.specs.Forest.{Tree, siblings}
-use Rattle.svd_rows.specs.Reading.{tree_of}
 use Rattle.svd_rows.specs.Rows.{Row}
-use Rattle.crate_form.specs.Crates.{blocks_of, crate_of, emitted, slot_of, slots_of, version_by}
+use Rattle.crate_form.specs.Crates.{blocks_of, crate_of, emitted, slot_of, slots_of}
 use Rattle.crate_form.specs.Elements.{IsPeripheral, block_at}
 use Rattle.crate_form.proofs.Forming.{emitted_by_tree}
 use Rattle.crate_form.proofs.Standing.{peripheral-first}
-use Rattle.crate_form.proofs.Versions.{no_indexes}
 
 pub map_push : {A B : Type 0} (f : A → B) (xs : List A) (x : A) → map f (xs ++ x ∷ []) ≡ map f xs ++ f x ∷ []
 map_push f [] x = refl
@@ -63,11 +61,10 @@ pub blocks-told : (device : Device) (all : List (Row Step Key)) → device_rows 
 unfolding crate_of device_tree
 blocks-told device all rows = ap (λ (krate : CrateTree). krate.blocks) (sym (ap emitted rows) ∙ emitted_by_tree device)
 
--- it is of the first version
-pub emitted-is : (all : List (Row Step Key)) (blocks : List BlockTree) (slots : List Slot) → slots ≡ (emitted all).slots → blocks ≡ (emitted all).blocks → ◌≡◌ {A = CrateTree} (record { version = One; slots = slots; blocks = blocks }) (emitted all)
-unfolding emitted crate_of
-emitted-is all blocks slots slots_are blocks_are =
-    λ i. record { version = ap version_by (sym (no_indexes (stated_props (tree_of all).keys) (tree_of all).below)) i; slots = slots_are i; blocks = blocks_are i }
+-- with its version these are the crate
+pub emitted-is : (all : List (Row Step Key)) (version : Version) (blocks : List BlockTree) (slots : List Slot) → version ≡ (emitted all).version → slots ≡ (emitted all).slots → blocks ≡ (emitted all).blocks
+    → ◌≡◌ {A = CrateTree} (record { version = version; slots = slots; blocks = blocks }) (emitted all)
+emitted-is all version blocks slots version_is slots_are blocks_are = λ i. record { version = version_is i; slots = slots_are i; blocks = blocks_are i }
 
 -- a checked device's peripherals are checked
 pub device-fits : (device : Device) → IsChecked device → FitIn 0 device.props (siblings (map peripheral_under device.peripherals.entries)) × ArePeripherals device.props (siblings (map peripheral_under device.peripherals.entries))

@@ -2,7 +2,7 @@
 use Rattle.std.proofs.Common.{◌≡◌, Bool, true, false, ◌&&◌, List, [], ◌∷◌, ◌++◌, refl, ap}
 use Rattle.std.specs.List.{list_all}
 use Rattle.std.proofs.lemmas.Bool.{false≢true}
-use Rattle.frag_tree.specs.declared.krate.Version.TheVariants.{One}
+use Rattle.frag_tree.specs.declared.krate.Version.TheVariants.{Two}
 use Rattle.frag_tree.specs.Trees.{Modules, ModuleTree, before, ended, in_line, one_block, one_register}
 use Rattle.frag_tree.specs.Validity.{valid_head, valid_modules, valid_register}
 use Rattle.svd_model.specs.declared.props.Props.{Props}
@@ -44,11 +44,11 @@ and_two : (a b c d : Bool) → ((a && b) && c) ≡ true → (c ≡ true → d �
 and_two true b c d h then_d = and_one b c d h then_d
 and_two false b c d h then_d = absurd (false≢true h)
 
-pub valid_line : (units : List ModuleTree) → list_all valid_unit units ≡ true → valid_modules One (in_line units) ≡ true
+pub valid_line : (units : List ModuleTree) → list_all valid_unit units ≡ true → valid_modules Two (in_line units) ≡ true
 unfolding in_line valid_modules
 valid_line [] all = refl
-valid_line (one_register unit ∷ units) all = and_one (valid_register One unit) (list_all valid_unit units) (valid_modules One (in_line units)) all (valid_line units)
-valid_line (one_block unit ∷ units) all = and_two (valid_head unit.head) (valid_modules One unit.inside) (list_all valid_unit units) (valid_modules One (in_line units)) all (valid_line units)
+valid_line (one_register unit ∷ units) all = and_one (valid_register Two unit) (list_all valid_unit units) (valid_modules Two (in_line units)) all (valid_line units)
+valid_line (one_block unit ∷ units) all = and_two (valid_head unit.head) (valid_modules Two unit.inside) (list_all valid_unit units) (valid_modules Two (in_line units)) all (valid_line units)
 
 pub valid_more : {A : Type 0} (test : A → Bool) (xs : List A) (x : A) → list_all test xs ≡ true → test x ≡ true → list_all test (xs ++ x ∷ []) ≡ true
 valid_more test [] x all one = ap (λ b. b && true) one

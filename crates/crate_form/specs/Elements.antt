@@ -1,5 +1,5 @@
 -- One element by itself: what checking says of it wherever it stands, and what it comes to in the crate.
-use Rattle.std.specs.Prelude.{ℕ, ◌≢◌, List, [], ◌∷◌, All}
+use Rattle.std.specs.Prelude.{ℕ, ◌≡◌, ◌≢◌, Bool, List, [], ◌∷◌, map, All}
 use Rattle.std.specs.List.{AllByRecursion}
 use Rattle.block_form.specs.declared.child.Child.{Child}
 use Rattle.block_form.specs.declared.child.ChildKind.{ChildKind}
@@ -24,7 +24,7 @@ use Rattle.svd_model.specs.Trees.{item_under}
 use Rattle.svd_rows.specs.Forest.{Forest, Tree, siblings}
 use Rattle.svd_values.specs.AccessorNames.{accessor_name}
 use Rattle.crate_form.specs.Children.{array_of, child_of, child_with, children_of}
-use Rattle.crate_form.specs.Crates.{slot_of}
+use Rattle.crate_form.specs.Crates.{slot_of, takes_indexes}
 use Rattle.crate_form.specs.Modules.{block_of, module_of, modules_of}
 use Rattle.crate_form.specs.Registers.{register_here, written_marker}
 
@@ -98,3 +98,13 @@ slot_at element = slot_of element.0 element.1.keys
 
 abbrev pub block_at : Props → (Step × Tree Step Key) → BlockTree
 block_at outer element = block_of (props_inside element.1.keys outer) element.0 element.1.below
+
+-- ---- whether calls take an index
+
+-- whether a field of these registers, or of those below these clusters, is an array, wherever they stand
+abbrev pub HaveArrays : List Item → Bool → Type 0
+HaveArrays items has = (outer : Props) → AllStand outer items → has ≡ takes_indexes outer (siblings (map item_under items))
+
+-- so of one of them
+abbrev pub HasArrays : (Step × Tree Step Key) → Bool → Type 0
+HasArrays element has = (outer : Props) → StandsAlone outer element → has ≡ takes_indexes outer (siblings (element ∷ []))

@@ -1,19 +1,13 @@
 -- What the laws of this crate say, each as one statement.
-use Rattle.std.specs.Prelude.{◌≡◌, false, List}
+use Rattle.std.specs.Prelude.{◌≡◌, List}
 use Rattle.frag_tree.specs.Trees.{CrateTree}
 use Rattle.svd_model.specs.declared.device.Device.{Device}
-use Rattle.svd_model.specs.declared.props.Props.{Props}
 use Rattle.svd_model.specs.Keys.{Key}
 use Rattle.svd_model.specs.Steps.{Step}
 use Rattle.svd_model.specs.Trees.{device_rows, device_tree}
-use Rattle.svd_rows.specs.Forest.{Forest}
 use Rattle.svd_rows.specs.Rows.{Row}
-use Rattle.crate_form.specs.Crates.{crate_of, emitted, takes_indexes}
+use Rattle.crate_form.specs.Crates.{crate_of, emitted}
 use Rattle.crate_form.specs.Forms.{HasForm}
-
--- No call takes an index: each member of an array of fields stands as a field by itself. So each crate is one of the first version.
-abbrev pub NoIndexes : Type 0
-NoIndexes = (outer : Props) (forest : Forest Step Key) → takes_indexes outer forest ≡ false
 
 -- The emitted crate has the form that the rows ask for, and no other crate has it.
 abbrev pub EmittedHasForm : Type 0

@@ -1,10 +1,10 @@
--- What the code makes of elements: the children of a block and the modules inside it, and whole blocks. Each can be printed in a text of the first version, and is read again.
+-- What the code makes of elements: the children of a block and the modules inside it, and whole blocks. Each can be printed in a text of the second version, and is read again; and so in one of the first, where no field is an array.
 use Rattle.std.specs.Prelude.{◌∷◌, [], ℕ, ◌≡◌, Bool, true, List, map}
 use Rattle.std.specs.List.{list_all}
 use Rattle.block_form.specs.declared.form.Form.{Form}
 use Rattle.frag_tree.specs.declared.block.Block.{Block}
 use Rattle.frag_tree.specs.declared.block.Module.{Module}
-use Rattle.frag_tree.specs.declared.krate.Version.TheVariants.{One}
+use Rattle.frag_tree.specs.declared.krate.Version.TheVariants.{Two}
 use Rattle.frag_tree.specs.Trees.{BlockTree, ModuleTree, Modules, block_tree, in_line, module_tree, one_block, one_register}
 use Rattle.frag_tree.specs.Validity.{valid_block, valid_register}
 use Rattle.svd_model.specs.declared.device.Cluster.{Cluster, out-Cluster}
@@ -21,8 +21,8 @@ use Rattle.crate_form.specs.Elements.{child_at, module_at}
 use Rattle.crate_form.specs.Modules.{modules_of}
 
 abbrev pub valid_unit : ModuleTree → Bool
-valid_unit (one_register unit) = valid_register One unit
-valid_unit (one_block unit) = valid_block One unit
+valid_unit (one_register unit) = valid_register Two unit
+valid_unit (one_block unit) = valid_block Two unit
 
 -- modules as trees
 abbrev pub units_of : List Module → List ModuleTree
@@ -51,4 +51,4 @@ block_with name form inside = record { head = record { name = name; fields = for
 
 pub record IsBlock (wanted : BlockTree) (block : Block) : Type 0 where
   pub tree : block_tree block ≡ wanted
-  pub valid : valid_block One (block_tree block) ≡ true
+  pub valid : valid_block Two (block_tree block) ≡ true

@@ -6,11 +6,11 @@ use Rattle.block_form.specs.Gaps.{gap_field, gap_name}
 use Rattle.block_form.specs.Order.{ordered_by, put_in}
 use Rattle.block_form.specs.Worked.{array_field, block_by, block_field, by_field, by_place, members, register_field}
 use Rattle.frag_tree.specs.declared.access.Body.TheVariants as body
-use Rattle.frag_tree.specs.declared.krate.Version.TheVariants.{One}
+use Rattle.frag_tree.specs.declared.krate.Version.TheVariants.{One, Two}
 use Rattle.frag_tree.specs.declared.register.BitKind.TheVariants.{Plain as plain_bit}
 use Rattle.frag_tree.specs.declared.register.ReadForm.TheVariants as read
 use Rattle.frag_tree.specs.declared.register.RegisterModule.{RegisterModule}
-use Rattle.frag_tree.specs.declared.register.Spot.TheVariants.{Fixed}
+use Rattle.frag_tree.specs.declared.register.Spot.TheVariants.{Fixed, Indexed}
 use Rattle.frag_tree.specs.declared.register.Values.TheVariants as values
 use Rattle.frag_tree.specs.declared.register.WriteForm.TheVariants as write
 use Rattle.frag_tree.specs.Trees.{block, ended, register as register_module}
@@ -166,3 +166,21 @@ pub keyword_names :
     }
 unfolding crate_words
 keyword_names = refl
+
+-- `LV[%s]`, four fields of two bits, eight bits apart: one reader and one writer with an index, and a text of the second version
+pub field_array :
+    crate_of no_props (device_of (codes "T") (node (step register (codes "R")) (at_offset 0 ∷ []) (node (step field (codes "LV[%s]")) (dim_count 4 ∷ dim_increment 8 ∷ at_offset 0 ∷ bit_width 2 ∷ []) leaf leaf) leaf))
+    ≡ record {
+      version = Two;
+      slots = record { name = codes "T"; block = codes "t"; address = 0x40000000 } ∷ [];
+      blocks = record {
+        head = record { name = codes "t"; fields = register_field (codes "r") ∷ []; accessors = by_field (codes "r") ∷ [] };
+        inside = register_module (record (no_fields (codes "r") W32) {
+          markers = codes "LV_F" ∷ [];
+          readers = Some (record { name = codes "lv"; marker = codes "LV_F"; form = read.Field W8 (Indexed 0 8 4) 3 } ∷ []);
+          writers = Some (record { name = codes "lv"; marker = codes "LV_F"; form = write.Field W8 2 (Indexed 0 8 4) } ∷ []);
+        }) ended;
+      } ∷ [];
+    }
+unfolding crate_words
+field_array = refl

@@ -1,14 +1,16 @@
 ghost use Rattle.std.specs.Prelude.{◌≡◌, ◌<◌, ◌^◌, ◌∷◌, [], true, map, option_map, IfOk, IfSome};
 ghost use Rattle.std.specs.List.{list_all, slice_get};
-ghost use Rattle.crate_form.specs.Crates.{emitted};
+ghost use Rattle.crate_form.specs.Crates.{emitted, takes_indexes};
 ghost use Rattle.crate_form.specs.Elements.{AllStand, IsPeripheral, block_at, slot_at};
 ghost use Rattle.crate_form.specs.Parts.{IsBlock};
-ghost use Rattle.frag_tree.specs.declared.krate.Version.TheVariants.{One};
+ghost use Rattle.frag_tree.specs.declared.krate.Version.TheVariants.{Two};
 ghost use Rattle.frag_tree.specs.Trees.{block_tree, crate_tree};
 ghost use Rattle.frag_tree.specs.Validity.{valid_block, valid_crate, valid_slot};
 ghost use Rattle.svd_model.specs.Properties.{holding};
 ghost use Rattle.svd_model.specs.Trees.{peripheral_under};
+ghost use Rattle.svd_rows.specs.Forest.{siblings};
 
+use crate::arrays::any_has_arrays;
 use crate::name::{accessor_of, slot_of};
 use crate::part::{block, parts_of};
 use block_form::block_form;
@@ -23,12 +25,36 @@ pub fn crate_form(alloc: Global, state: &Checked) -> Result<Crate, NoMemory>
     ensures form { IfOk result (λ krate. crate_tree krate ≡ emitted state.now) }
     ensures valid { IfOk result (λ krate. valid_crate (crate_tree krate) ≡ true) }
 {
+    let _device = state.device();
     Ok(Crate {
-        version: Version::One,
+        version: crate_version(state),
         slots: crate_slots(alloc, state)?,
         blocks: blocks(alloc, state)?,
         places: Seq::new(alloc),
     })
+}
+
+/// Its version: the second where a register has an array of fields, whose calls take an index.
+pub fn crate_version(state: &Checked) -> Version
+    ensures { result ≡ (emitted state.now).version }
+{
+    let device = state.device();
+    for (key, peripheral) in &device.peripherals {
+        if peripheral_has_arrays(key, peripheral, &device.props) {
+            return Version::Two;
+        }
+    }
+    Version::One
+}
+
+/// Whether a field in a peripheral is an array.
+fn peripheral_has_arrays(key: &Sibling, peripheral: &Peripheral, outer: &Props) -> bool
+    requires { IsPeripheral outer.now (peripheral_under (key.now, peripheral.now)) }
+    ensures { result ≡ takes_indexes outer.now (siblings (peripheral_under (key.now, peripheral.now) ∷ [])) }
+{
+    let _ = key;
+    let _ = outer;
+    any_has_arrays(peripheral.children.as_slice())
 }
 
 /// Its slots.
@@ -47,7 +73,7 @@ pub fn crate_slots(alloc: Global, state: &Checked) -> Result<Seq<Slot>, NoMemory
 /// Its block module of this number, counted from 0; none where it has no more.
 pub fn crate_block(alloc: Global, state: &Checked, number: usize) -> Result<Option<Block>, NoMemory>
     ensures form { IfOk result (λ block. option_map block_tree block ≡ slice_get (emitted state.now).blocks number) }
-    ensures valid { IfOk result (λ block. IfSome block (λ block. valid_block One (block_tree block) ≡ true)) }
+    ensures valid { IfOk result (λ block. IfSome block (λ block. valid_block (emitted state.now).version (block_tree block) ≡ true)) }
 {
     let device = state.device();
     match device.peripherals.get_index(number) {
@@ -62,7 +88,7 @@ pub fn crate_block(alloc: Global, state: &Checked, number: usize) -> Result<Opti
 /// Its block modules.
 fn blocks(alloc: Global, state: &Checked) -> Result<Vec<Block>, NoMemory>
     ensures form { IfOk result (λ blocks. map block_tree blocks.items ≡ (emitted state.now).blocks) }
-    ensures valid { IfOk result (λ blocks. list_all (valid_block One) (map block_tree blocks.items) ≡ true) }
+    ensures valid { IfOk result (λ blocks. list_all (valid_block Two) (map block_tree blocks.items) ≡ true) }
 {
     let device = state.device();
     let mut blocks = Vec::new(alloc);

@@ -1,9 +1,4 @@
-ghost use Rattle.crate_form.specs.Laws.{EmittedByTree, EmittedHasForm, NoIndexes, OneHasForm};
-
-/// The crate of each description is one of the first version: no call of a field takes an index.
-pub fn version_law()
-    ensures { NoIndexes }
-{}
+ghost use Rattle.crate_form.specs.Laws.{EmittedByTree, EmittedHasForm, OneHasForm};
 
 /// The emitted crate is the one that has the form which the rows of the description ask for, block by block and
 /// register by register. It is told by the description's tree.

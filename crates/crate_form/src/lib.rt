@@ -2,11 +2,12 @@
 // that builds it.
 #![tactic(auto)]
 
+mod arrays;
 mod krate;
 mod laws;
 mod name;
 mod part;
 mod register;
 
-pub use krate::{crate_block, crate_form, crate_slots};
-pub use laws::{form_law, version_law};
+pub use krate::{crate_block, crate_form, crate_slots, crate_version};
+pub use laws::form_law;

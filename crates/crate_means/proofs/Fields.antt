@@ -2,25 +2,26 @@
 use Rattle.std.proofs.Common.{ℕ, ◌≡◌, ◌+◌, ◌^◌, ◌<◌, ◌≤◌, Bool, true, false, ◌==◌, cond, List, [], ◌∷◌, ◌++◌, length, map, find, Option, Some, None, option_map, bytes_eq, refl, sym, ap, ap₂, subst, ◌∙◌, arith, mod-eq_of_lt}
 use Rattle.std.specs.Prelude.{codes}
 use Rattle.std.specs.List.{zip}
-use Rattle.bits_word.specs.Places.{get, put}
+use Rattle.bits_word.specs.Places.{get}
 use Rattle.pac_base.specs.Widths.{bits_of}
 use Rattle.frag_tree.specs.declared.event.Said.TheVariants.{Number, Truth}
+use Rattle.frag_sem.specs.PreludeWords.{written as word_written}
 use Rattle.frag_sem.proofs.Lists.{found_map}
 use Rattle.reg_table.specs.declared.row.Call.{Call}
 use Rattle.reg_table.specs.declared.row.FieldDim.{FieldDim}
 use Rattle.reg_table.specs.declared.row.FieldRow.{FieldRow}
 use Rattle.reg_table.specs.declared.row.Row.{Row as TableRow}
 use Rattle.register_form.specs.declared.register.Field.{Field}
-use Rattle.register_form.specs.Doings.{bit_in, compared, field_got, field_put, lowest_bit, said_by, value_by, value_or}
+use Rattle.register_form.specs.Doings.{bit_in, compared, field_got, field_writes, lowest_bit, said_by, value_by, value_or}
 use Rattle.register_form.specs.Doings as form
 use Rattle.svd_values.specs.declared.schema_word.WriteKind.{WriteKind}
 use Rattle.svd_values.specs.declared.schema_word.WriteKind.TheVariants as kind
-use Rattle.table_sem.specs.Members.{IsIndexOf, member_at, member_behind, member_count, member_get}
+use Rattle.reg_table.specs.Members.{member_at, member_behind, member_count}
+use Rattle.table_sem.specs.Members.{member_get}
 use Rattle.table_sem.specs.Methods.{ReadMethod, WriteMethod, bit_tests, bit_writes, is_bit, read_methods, read_methods_by, tests_for, write_methods, write_methods_by, writes}
 use Rattle.table_sem.specs.RowActs.{field_said, number_put, said_of}
 use Rattle.table_sem.specs.RowActs as row_acts
-use Rattle.table_sem.specs.RowFacts.{FieldFits}
-use Rattle.table_sem.proofs.Places.{put_small}
+use Rattle.table_sem.proofs.Places.{written_is_put}
 use Rattle.crate_form.specs.Registers.{bit_kind, field_array, field_of, marked, number_call}
 
 -- a field of a row, behind its marker
@@ -66,14 +67,6 @@ count_same part = by part.1.dim
     by : (dim : Option FieldDim) → option_map (λ array. array.count) (option_map field_array dim) ≡ option_map (λ (dim : FieldDim). dim.count) dim
     by None = refl
     by (Some dim) = refl
-
--- a field that is no array lies within its register
-pub within_row : (row : TableRow) (field : FieldRow) → FieldFits row field → field.dim ≡ None → (index : Option ℕ) → member_at field index + field.width ≤ bits_of row.width
-within_row row field fits alone index =
-    let here : field.offset + member_behind None None + field.width ≤ bits_of row.width =
-    subst (λ (dim : Option FieldDim). field.offset + member_behind dim None + field.width ≤ bits_of row.width) alone
-    (fits.within None (subst (λ (dim : Option FieldDim). IsIndexOf (option_map (λ (dim : FieldDim). dim.count) dim) None) (sym alone) tt)) in
-    subst (λ (dim : Option FieldDim). field.offset + member_behind dim index + field.width ≤ bits_of row.width) (sym alone) here
 
 -- ---- what is read
 
@@ -142,9 +135,9 @@ value_same false part method value =
     ap (λ put. cond (bytes_eq method (codes "bits")) value put) (written value method part.1.set_calls)
     ∙ sym (put_if (bytes_eq method (codes "bits")) value _ (find (λ (one : WriteMethod). bytes_eq method one.name) (map writes part.1.set_calls)))
 
-pub put_same : (row : TableRow) (index : Option ℕ) (method : List ℕ) (value word : ℕ) → word < 2 ^ bits_of row.width → (part : Part) → member_at (told part) index + part.1.width ≤ bits_of row.width
-    → field_put index method value word (Some (made part)) ≡ row_acts.field_put (bits_of row.width) index method value word (Some (told part))
+pub put_same : (row : TableRow) (index : Option ℕ) (method : List ℕ) (value word : ℕ) → word < 2 ^ bits_of row.width → (part : Part)
+    → field_writes (bits_of row.width) index method value word (Some (made part)) ≡ row_acts.field_put (bits_of row.width) index method value word (Some (told part))
 unfolding write_methods
-put_same row index method value word small part within =
-    ap₂ (λ place number. put word place part.1.width number) (place_same part index) (value_same (is_bit part.1) part method value)
-    ∙ sym (mod-eq_of_lt (put_small (bits_of row.width) word (member_at part.1 index) part.1.width (number_put value (find (λ (one : WriteMethod). bytes_eq method one.name) (write_methods_by (is_bit part.1) part.1))) small within))
+put_same row index method value word small part =
+    ap₂ (λ place number. word_written (bits_of row.width) word place part.1.width number) (place_same part index) (value_same (is_bit part.1) part method value)
+    ∙ written_is_put (bits_of row.width) word (member_at part.1 index) part.1.width (number_put value (find (λ (one : WriteMethod). bytes_eq method one.name) (write_methods_by (is_bit part.1) part.1))) small

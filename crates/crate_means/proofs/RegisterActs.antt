@@ -1,33 +1,35 @@
 -- The module of a register does with words what its row says.
-use Rattle.std.proofs.Common.{ℕ, ◌≡◌, ◌+◌, ◌^◌, ◌<◌, ◌≤◌, Bool, true, false, cond, List, [], ◌∷◌, length, map, filter, find, Option, Some, None, IfSome, option_map, bytes_eq, refl, sym, ap, subst, ◌∙◌, arith}
+use Rattle.std.proofs.Common.{ℕ, ◌≡◌, ◌+◌, ◌^◌, ◌<◌, ◌≤◌, Bool, true, false, List, [], ◌∷◌, length, map, filter, find, Option, Some, None, option_map, bytes_eq, refl, sym, ap, subst, ◌∙◌, arith}
 use Rattle.std.specs.Prelude.{unwrap_or}
 use Rattle.std.specs.List.{AllByRecursion, zip}
 use Rattle.pac_base.specs.declared.width.Width.{Width}
 use Rattle.pac_base.specs.declared.width.Width.TheVariants.{W8, W16, W32, W64}
 use Rattle.pac_base.specs.Widths.{bits_of}
+use Rattle.frag_sem.specs.CallPlaces.{admits}
 use Rattle.frag_sem.specs.Likeness.{Alike, KeepsWords}
 use Rattle.frag_sem.specs.Meaning.{Acts}
 use Rattle.frag_sem.specs.Modules.{are_distinct_names}
 use Rattle.frag_sem.specs.TextMeaning.{one_to_modify, started, text_acts, zero_to_modify}
 use Rattle.frag_sem.proofs.Lists.{found_map}
 use Rattle.frag_sem.proofs.Words.{some_power, start_small}
+use Rattle.reg_table.specs.Members.{member_count}
 use Rattle.reg_table.specs.declared.row.Call.{Call}
 use Rattle.reg_table.specs.declared.row.FieldRow.{FieldRow}
 use Rattle.reg_table.specs.declared.row.Row.{Row as TableRow}
 use Rattle.register_form.specs.declared.register.Field.{Field}
 use Rattle.register_form.specs.declared.register.Register.{Register}
-use Rattle.register_form.specs.Doings.{CallsFit, FieldIsSound, RegisterIsSound, field_got, field_put, lowest_bit}
+use Rattle.register_form.specs.Doings.{CallsFit, FieldIsSound, RegisterIsSound, field_count, field_got, field_writes, lowest_bit}
 use Rattle.register_form.specs.Forms.{form_of, masks_of, markers_of, where_true}
-use Rattle.register_form.proofs.Among.{all_found}
-use Rattle.register_form.proofs.Words.{fields_give, fields_put, starts_are}
+use Rattle.register_form.proofs.Words.{fields_give, fields_write, starts_are}
 use Rattle.svd_rows.proofs.Lists.{filter-map, map-map}
 use Rattle.table_sem.specs.RowActs.{readable_fields, row_acts, writable_fields}
 use Rattle.table_sem.specs.RowActs as row_words
 use Rattle.table_sem.specs.RowFacts.{FieldFits, RowFits}
+use Rattle.table_sem.proofs.Rows.{index-admitted, member-narrow}
 use Rattle.table_sem.proofs.Runs.{row_keeps_words}
 use Rattle.table_sem.proofs.StartNumbers.{start_is_one}
 use Rattle.crate_form.specs.Registers.{number_call, register_of}
-use Rattle.crate_means.proofs.Fields.{Part, fields_made, fields_told, given_same, made, markers_told, place_same, put_same, told, within_row}
+use Rattle.crate_means.proofs.Fields.{Part, count_same, fields_made, fields_told, given_same, made, markers_told, place_same, put_same, told}
 
 -- ---- likeness
 
@@ -64,21 +66,24 @@ bits_within W64 = omega arith
 
 -- ---- what checking says of a row
 
--- what is said of a field, and that it is no array
+abbrev pub HasMember : FieldRow → Type 0
+HasMember field = 1 ≤ unwrap_or (member_count field) 1
+
+-- what is said of a field, and that it has a member
 pub record PartFits (row : TableRow) (part : Part) : Type 0 where
   pub fits : FieldFits row part.1
-  pub alone : part.1.dim ≡ None
+  pub some : HasMember part.1
 
--- A row that fits, whose fields are no arrays, with a marker for each field, all of them distinct.
+-- A row that fits, whose fields have members, with a marker for each field, all of them distinct.
 pub record IsMarked (row : TableRow) (markers : List (List ℕ)) : Type 0 where
   pub fits : RowFits row
-  pub alone : AllByRecursion (λ (field : FieldRow). field.dim ≡ None) row.fields
+  pub some : AllByRecursion HasMember row.fields
   pub same : length markers ≡ length row.fields
   pub distinct : are_distinct_names markers ≡ true
 
-parts_fit : (row : TableRow) (parts : List Part) → AllByRecursion (FieldFits row) (map told parts) → AllByRecursion (λ (field : FieldRow). field.dim ≡ None) (map told parts) → AllByRecursion (PartFits row) parts
-parts_fit row [] fits alone = tt
-parts_fit row (part ∷ parts) fits alone = (record { fits = fits.0; alone = alone.0 }, parts_fit row parts fits.1 alone.1)
+parts_fit : (row : TableRow) (parts : List Part) → AllByRecursion (FieldFits row) (map told parts) → AllByRecursion HasMember (map told parts) → AllByRecursion (PartFits row) parts
+parts_fit row [] fits some = tt
+parts_fit row (part ∷ parts) fits some = (record { fits = fits.0; some = some.0 }, parts_fit row parts fits.1 some.1)
 
 calls_fit : (bits : ℕ) (calls : List Call) → AllByRecursion (λ (call : Call). call.value < 2 ^ bits) calls → CallsFit bits (map number_call calls)
 calls_fit bits [] fit = tt
@@ -98,17 +103,19 @@ module _ (name : List ℕ) (row : TableRow) (markers : List (List ℕ)) (is : Is
   told_are = fields_told markers row.fields is.same
 
   pub all_fit : AllByRecursion (PartFits row) parts
-  all_fit = parts_fit row parts (subst (AllByRecursion (FieldFits row)) told_are is.fits.fields) (subst (AllByRecursion (λ (field : FieldRow). field.dim ≡ None)) told_are is.alone)
+  all_fit = parts_fit row parts (subst (AllByRecursion (FieldFits row)) told_are is.fits.fields) (subst (AllByRecursion HasMember) told_are is.some)
 
-  within : (part : Part) → PartFits row part → (index : Option ℕ) → lowest_bit (made part) index + part.1.width ≤ bits_of row.width
-  within part fit index = subst (λ (n : ℕ). n + part.1.width ≤ bits_of row.width) (sym (place_same part index)) (within_row row part.1 fit.fits fit.alone index)
+  within : (part : Part) → PartFits row part → (index : Option ℕ) → admits (field_count (made part)) index ≡ true → lowest_bit (made part) index + part.1.width ≤ bits_of row.width
+  within part fit index h =
+      subst (λ (n : ℕ). n + part.1.width ≤ bits_of row.width) (sym (place_same part index))
+      (fit.fits.within index (index-admitted (member_count part.1) index (subst (λ (count : Option ℕ). admits count index ≡ true) (count_same part) h)))
 
   fields_sound : (list : List Part) → AllByRecursion (PartFits row) list → AllByRecursion (FieldIsSound made_of) (map made list)
   fields_sound [] fit = tt
   fields_sound (part ∷ list) fit = (
     record {
-      bits = record { some = fit.0.fits.some; most = omega (arith, within part fit.0 None, bits_within row.width) };
-      within = λ index h. within part fit.0 index;
+      bits = record { some = fit.0.fits.some; most = omega (arith, member-narrow row part.1 fit.0.fits fit.0.some, bits_within row.width) };
+      within = within part fit.0;
       tests = calls_fit part.1.width part.1.is_calls fit.0.fits.is_calls;
       sets = calls_fit part.1.width part.1.set_calls fit.0.fits.set_calls;
       readable = fit.0.fits.readable;
@@ -156,33 +163,17 @@ module _ (name : List ℕ) (row : TableRow) (markers : List (List ℕ)) (is : Is
       ∙ given_same index method word (readable field)
       ∙ sym (ap (row_words.field_said index method word) (found_told (λ (one : FieldRow). one.readable) field))
 
-  passed : (field : List ℕ) → IfSome (writable field) (PartFits row)
-  passed field = all_found (PartFits row) (λ (part : Part). bytes_eq field part.1.name) (filter (λ (part : Part). part.1.writable) parts) (kept parts all_fit)
-    where
-      kept : (list : List Part) → AllByRecursion (PartFits row) list → AllByRecursion (PartFits row) (filter (λ (part : Part). part.1.writable) list)
-      kept [] all = tt
-      kept (part ∷ list) all = by part.1.writable (kept list all.1)
-        where
-          by : (b : Bool) → AllByRecursion (PartFits row) (filter (λ (part : Part). part.1.writable) list) → AllByRecursion (PartFits row) (cond b (part ∷ filter (λ (part : Part). part.1.writable) list) (filter (λ (part : Part). part.1.writable) list))
-          by true more = (all.0, more)
-          by false more = more
-
   put : (field : List ℕ) (index : Option ℕ) (method : List ℕ) (value word : ℕ) → word < 2 ^ bits_of row.width → (text_acts (form_of made_of)).put field index method value word ≡ (row_acts row).put field index method value word
   unfolding row_acts
   put field index method value word small =
-      fields_put made_of sound field index method value word small
-      (subst (λ o. IfSome o (λ (one : Field). lowest_bit one index + one.bits ≤ bits_of row.width)) (sym (found_made (λ (one : Field). one.writable) field)) (lies (writable field) (passed field)))
-      ∙ ap (field_put index method value word) (found_made (λ (one : Field). one.writable) field)
-      ∙ by (writable field) (passed field)
+      fields_write made_of sound field index method value word
+      ∙ ap (field_writes (bits_of row.width) index method value word) (found_made (λ (one : Field). one.writable) field)
+      ∙ by (writable field)
       ∙ sym (ap (row_words.field_put (bits_of row.width) index method value word) (found_told (λ (one : FieldRow). one.writable) field))
     where
-      lies : (o : Option Part) → IfSome o (PartFits row) → IfSome (option_map made o) (λ (one : Field). lowest_bit one index + one.bits ≤ bits_of row.width)
-      lies None fit = tt
-      lies (Some part) fit = within part fit index
-
-      by : (o : Option Part) → IfSome o (PartFits row) → field_put index method value word (option_map made o) ≡ row_words.field_put (bits_of row.width) index method value word (option_map told o)
-      by None fit = refl
-      by (Some part) fit = put_same row index method value word small part (within_row row part.1 fit.fits fit.alone index)
+      by : (o : Option Part) → field_writes (bits_of row.width) index method value word (option_map made o) ≡ row_words.field_put (bits_of row.width) index method value word (option_map told o)
+      by None = refl
+      by (Some part) = put_same row index method value word small part
 
   -- ---- the start of a write
 

@@ -25,7 +25,7 @@ use Rattle.svd_model.specs.Checking.{width_of}
 use Rattle.svd_rows.proofs.Lists.{filter-map}
 use Rattle.svd_values.specs.declared.schema_word.WriteKind.{WriteKind}
 use Rattle.svd_values.specs.declared.schema_word.WriteKind.TheVariants as kind
-use Rattle.table_sem.specs.Members.{member_count}
+use Rattle.reg_table.specs.Members.{member_count}
 use Rattle.table_sem.specs.Methods.{bit_writes, is_bit, read_methods, read_methods_by, tests_for, write_methods, write_methods_by, writes}
 use Rattle.table_sem.specs.RowActs.{readable_fields, writable_fields}
 use Rattle.table_sem.specs.TableSurface.{read_call, row_calls, write_call}

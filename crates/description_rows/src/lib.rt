@@ -5,7 +5,11 @@
 #[cfg(test)]
 mod case_tables;
 #[cfg(test)]
+mod checks;
+#[cfg(test)]
 mod elements;
+#[cfg(test)]
+mod field_arrays;
 #[cfg(test)]
 mod files;
 #[cfg(test)]

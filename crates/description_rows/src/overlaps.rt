@@ -1,11 +1,6 @@
-use dim_expand::unfold;
-use overlap_check::{Policy, check};
-use pac_fault::{PacFault, fault_line};
-use pac_io::MemSink;
-use std::alloc::Global;
+use crate::checks::{described, line};
+use overlap_check::Policy;
 use std::test::Fail;
-use svd_model::{Derived, Patched};
-use svd_reader::read_device;
 
 // What stands in a peripheral, and the line of the first fault where overlaps are asked for.
 const ROWS: [(&str, &str, &str); 11] = [
@@ -66,46 +61,11 @@ const ROWS: [(&str, &str, &str); 11] = [
     ),
 ];
 
-/// The first fault of a description where overlaps are asked for.
-fn fault(alloc: Global, text: &str) -> Result<Option<PacFault>, Fail> {
-    if text.len() > 67_108_864 {
-        return Ok(None);
-    }
-    let described = read_device(alloc, text.as_bytes())?;
-    let Ok(derived) = Derived::of(alloc, Patched::of(described)) else {
-        return Ok(None);
-    };
-    let Ok(unfolded) = unfold(alloc, derived) else {
-        return Ok(None);
-    };
-    match check(alloc, unfolded, Policy::Strict) {
-        Ok(_) => Ok(None),
-        Err(back) => Ok(Some(PacFault::Check(back.fault))),
-    }
-}
-
-/// The line of that fault, which is empty where there is none.
-fn line(alloc: Global, text: &str) -> Result<MemSink, Fail> {
-    let mut line = MemSink::new(alloc);
-    if let Some(fault) = fault(alloc, text)? {
-        fault_line(alloc, &fault)?.finish(&mut line)?;
-    }
-    Ok(line)
-}
-
-/// A description with one peripheral `T` at 0x40000000 that holds these registers.
-fn described(rt: &impl AllocGlobal, registers: &str) -> Result<String, Fail> {
-    Ok(format!(in rt.alloc();
-        "<device><name>D</name><peripherals><peripheral><name>T</name><baseAddress>0x40000000</baseAddress><registers>{}</registers></peripheral></peripherals></device>",
-        registers
-    )?)
-}
-
 #[test]
 fn overlaps_are_refused_where_they_are_asked_for(rt: HostRuntime) -> Result<(), Fail> {
     for (row, registers, wanted) in ROWS {
         let text = described(&rt, registers)?;
-        let told = line(rt.alloc(), text.as_str())?;
+        let told = line(rt.alloc(), text.as_str(), Policy::Strict)?;
         assert!(rt; told.written() == wanted.as_bytes(), "{row}");
     }
     Ok(())

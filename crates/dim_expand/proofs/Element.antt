@@ -330,7 +330,7 @@ plain-form : (kind : Kind) (name : List ℕ) (number : ℕ) (keys : List Key) �
 plain-form peripheral name number keys dims word placed may = (dims, word)
 plain-form cluster name number keys dims word placed may = inr (dims, word)
 plain-form register name number keys dims word placed may = inr (dims, word)
-plain-form field name number keys dims word placed may = ((dims, word), placed refl)
+plain-form field name number keys dims word placed may = (inr (dims, word), placed refl)
 plain-form set name number keys dims word placed may = absurd cc
 plain-form value name number keys dims word placed may = absurd cc
 
@@ -362,7 +362,7 @@ itself-by : (kind : Kind) (name : List ℕ) (number : ℕ) (keys : List Key) (o 
 unfolding is_list is_list_name
 itself-by kind name number keys None is free unlisted may named placed =
     plain-form kind name number keys (no-dims keys is) (unmarked name free) placed may
-itself-by kind name number keys (Some d) is free unlisted may named placed = by kind unlisted may
+itself-by kind name number keys (Some d) is free unlisted may named placed = by kind unlisted may placed
   where
     array : (b : Bool) → has_array_mark name ≡ b → (is_marked name && not (true && b)) ≡ false → IsTrue (list_any is_dim keys) × IsArrayName name
     array true e f = (true_is (list_any is_dim keys) (some-dims keys d is), array-name name named free.mark e)
@@ -379,13 +379,13 @@ itself-by kind name number keys (Some d) is free unlisted may named placed = by 
     no_array : (is_marked name && true) ≡ false → ⊥
     no_array f = let g : (true && true) ≡ false = ap (λ b. b && true) (sym free.mark) ∙ f in absurd cc
 
-    by : (kind : Kind) → (has_dimension kind && (is_marked name && not (may_be_array kind && has_array_mark name))) ≡ false → has_dimension kind ≡ true → IsArrayOrPlain (record { kind = kind; name = name; number = number }) keys
-    by peripheral f m = absurd (no_array f)
-    by cluster f m = inl (array (has_array_mark name) refl f)
-    by register f m = inl (array (has_array_mark name) refl f)
-    by field f m = absurd (no_array f)
-    by set f m = absurd cc
-    by value f m = absurd cc
+    by : (kind : Kind) → (has_dimension kind && (is_marked name && not (may_be_array kind && has_array_mark name))) ≡ false → has_dimension kind ≡ true → (kind ≡ field → IsPlaced keys) → IsArrayOrPlain (record { kind = kind; name = name; number = number }) keys
+    by peripheral f m p = absurd (no_array f)
+    by cluster f m p = inl (array (has_array_mark name) refl f)
+    by register f m p = inl (array (has_array_mark name) refl f)
+    by field f m p = (inl (array (has_array_mark name) refl f), p refl)
+    by set f m p = absurd cc
+    by value f m p = absurd cc
 
 plain-kind : (kind : Kind) (name : List ℕ) (number other : ℕ) (keys : List Key) → has_dimension kind ≡ false → HasForm IsPlaced (record { kind = kind; name = name; number = other }) keys → IsArrayOrPlain (record { kind = kind; name = name; number = number }) keys
 plain-kind peripheral name number other keys may h = absurd cc

@@ -1,5 +1,5 @@
 -- Names with a mark: the mark `%s` stands for an index, and `[%s]` behind a name for the index of an array's member
--- (CMSIS-SVD 1.3, `dimableIdentifierType`). That peripherals and fields have no arrays is this project's own rule.
+-- (CMSIS-SVD 1.3, `dimableIdentifierType`). That peripherals are no arrays is this project's own rule.
 use Rattle.std.specs.Prelude.{ℕ, Bool, true, false, not, ◌&&◌, List, [], ◌++◌, take, drop, if◌then◌else◌}
 use Rattle.std.specs.List.{list_all, prefix_len}
 use Rattle.std.specs.Str.{bytes_eq}
@@ -44,7 +44,7 @@ abbrev pub may_be_array : Kind → Bool
 may_be_array peripheral = false
 may_be_array cluster = true
 may_be_array register = true
-may_be_array field = false
+may_be_array field = true
 may_be_array set = false
 may_be_array value = false
 

@@ -1,9 +1,9 @@
--- Two small descriptions with what unfolding makes of their rows, by computation.
+-- Small descriptions with what unfolding makes of their rows, by computation.
 use Rattle.std.specs.Prelude.{◌≡◌, ℕ, List, [], ◌∷◌, ◌++◌, map, codes, refl}
 use Rattle.std.specs.Fmt.{digits}
 use Rattle.dim_expand.specs.Marks.{is_marked, is_list_name, is_list, indexed}
 use Rattle.dim_expand.specs.Unfolding.{groups_of, group_step, group_keys, numbered_behind, sibling_rows, unfolded_below, unfolded_rows}
-use Rattle.svd_model.specs.Keys.{Key, dim_count, dim_increment, dim_index, base_address, at_offset}
+use Rattle.svd_model.specs.Keys.{Key, dim_count, dim_increment, dim_index, base_address, at_offset, bit_width}
 use Rattle.svd_model.specs.Stating.{value_of}
 use Rattle.svd_model.specs.Steps.{Step, Kind, peripheral, register, field, same_step}
 use Rattle.svd_rows.specs.LookUps.{inside, keys_of, top_key, children_of, child_step}
@@ -43,3 +43,22 @@ list-of-letters = refl
 pub same-names : unfolded_rows (device_rows (channel_rows (channel (codes "CH0") 0) (at_offset 64 ∷ []) ++ channel_rows (channel (codes "CH%s") 0) (dim_count 2 ∷ dim_increment 4 ∷ at_offset 8 ∷ []))) ≡ device_rows (channel_rows (channel (codes "CH0") 0) (at_offset 64 ∷ []) ++ (channel_rows (channel (codes "CH0") 1) (at_offset 8 ∷ []) ++ channel_rows (channel (codes "CH1") 0) (at_offset 12 ∷ [])))
 unfolding unfolded_rows unfolded_below sibling_rows numbered_behind groups_of group_step group_keys is_list is_list_name is_marked indexed value_of inside keys_of top_key children_of child_step begins same_step own under digits
 same-names = refl
+
+-- the rows of a register `R` with fields of these names and keys
+abbrev field_rows : List (List ℕ × List Key) → List (Row Step Key)
+field_rows fields = row (timer ∷ channel (codes "R") 0 ∷ []) element ∷ below fields
+  where
+    below : List (List ℕ × List Key) → List (Row Step Key)
+    below [] = []
+    below (one ∷ others) =
+        row (timer ∷ channel (codes "R") 0 ∷ step field one.0 0 ∷ []) element ∷ (map (λ key. row (timer ∷ channel (codes "R") 0 ∷ step field one.0 0 ∷ []) (states key)) one.1 ++ below others)
+
+-- an array of fields stays one field
+pub array-of-fields : unfolded_rows (device_rows (field_rows ((codes "LV[%s]", dim_count 4 ∷ dim_increment 8 ∷ at_offset 0 ∷ bit_width 2 ∷ []) ∷ []))) ≡ device_rows (field_rows ((codes "LV[%s]", dim_count 4 ∷ dim_increment 8 ∷ at_offset 0 ∷ bit_width 2 ∷ []) ∷ []))
+unfolding unfolded_rows unfolded_below sibling_rows numbered_behind groups_of group_step group_keys is_list is_list_name is_marked indexed value_of inside keys_of top_key children_of child_step begins same_step own under
+array-of-fields = refl
+
+-- a list of fields becomes its members
+pub list-of-fields : unfolded_rows (device_rows (field_rows ((codes "F%s", dim_count 2 ∷ dim_increment 8 ∷ at_offset 1 ∷ bit_width 2 ∷ []) ∷ []))) ≡ device_rows (field_rows ((codes "F0", at_offset 1 ∷ bit_width 2 ∷ []) ∷ (codes "F1", at_offset 9 ∷ bit_width 2 ∷ []) ∷ []))
+unfolding unfolded_rows unfolded_below sibling_rows numbered_behind groups_of group_step group_keys is_list is_list_name is_marked indexed value_of inside keys_of top_key children_of child_step begins same_step own under digits
+list-of-fields = refl

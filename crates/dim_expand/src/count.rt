@@ -101,7 +101,7 @@ fn field_count(counted: Counted, key: &Sibling, element: &Field) -> u64
     ensures count { result ≡ told_count (weighed_at counted (field_under (key.now, element.now))) }
     ensures typed { IsTypedAt (field_under (key.now, element.now)) }
 {
-    let weight = weight(counted, false, &key.name, &element.dim);
+    let weight = weight(counted, true, &key.name, &element.dim);
     let below = sets_count(counted, element.values.as_slice());
     times(weight, counts_field(counted), below)
 }

@@ -53,7 +53,7 @@ fn push_fields(
 ) -> Result<(), NoMemory>
     ensures { OnOk result (Pushes tally.old.counts.entries (map field_under made.old.entries) (unfolded_list capped (siblings (field_under (key.now, element.now) ∷ []))) tally.new.counts.entries (map field_under made.new.entries)) }
 {
-    let count = list_count(false, &key.name, &element.dim);
+    let count = list_count(true, &key.name, &element.dim);
     for place in 0..count.unwrap_or(1) {
         push_field(alloc, key, element, made, tally, group_at(count, place))?;
     }

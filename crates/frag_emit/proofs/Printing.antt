@@ -4,7 +4,7 @@ use Rattle.std.specs.Io.KnownBytes.{Appends}
 use Rattle.std.specs.List.{flat_map, list_all, slice_get}
 use Rattle.std.proofs.lemmas.Bool.{and_from, and_parts}
 use Rattle.std.proofs.lemmas.Option.{slice_get-map, slice_get_within}
-use Rattle.crate_form.proofs.Peripherals.{block-at, blocks-told, emitted-is}
+use Rattle.crate_form.proofs.Peripherals.{block-at, blocks-told}
 use Rattle.crate_form.specs.Crates.{emitted}
 use Rattle.crate_form.specs.Elements.{block_at}
 use Rattle.frag_emit.specs.Parts.{AppendsPart, part_at, part_forms}
@@ -14,7 +14,6 @@ use Rattle.frag_tree.specs.Trees.{BlockTree, CrateTree}
 use Rattle.frag_tree.specs.Validity.{valid_block, valid_crate, valid_slot}
 use Rattle.frag_tree.specs.declared.krate.Slot.{Slot}
 use Rattle.frag_tree.specs.declared.krate.Version.{Version}
-use Rattle.frag_tree.specs.declared.krate.Version.TheVariants.{One}
 use Rattle.pac_io.proofs.WrittenUpTo.{all_written, begun, broke_off, went_on}
 use Rattle.pac_io.specs.Writing.{AppendsPrefix}
 use Rattle.pac_io.specs.WrittenUpTo.{WrittenUpTo}
@@ -33,13 +32,10 @@ use Rattle.svd_rows.specs.Rows.{Row}
 
 -- ---- the parts
 
-version-is : (all : List (Row Step Key)) → (emitted all).version ≡ One
-version-is all = sym (ap (λ (krate : CrateTree). krate.version) (emitted-is all (emitted all).blocks (emitted all).slots refl refl))
-
 -- the head of an emitted crate
-pub head-is : (all : List (Row Step Key)) (slots : List Slot) → slots ≡ (emitted all).slots → part_at (emitted all) 0 ≡ Some (head_text One slots)
+pub head-is : (all : List (Row Step Key)) (version : Version) (slots : List Slot) → version ≡ (emitted all).version → slots ≡ (emitted all).slots → part_at (emitted all) 0 ≡ Some (head_text version slots)
 unfolding part_at
-head-is all slots is = λ i. Some (head_text (version-is all i) (sym is i))
+head-is all version slots is_version is = λ i. Some (head_text (sym is_version i) (sym is i))
 
 pub head-valid : (all : List (Row Step Key)) (slots : List Slot) → slots ≡ (emitted all).slots → list_all valid_slot slots ≡ true → slice_get (part_forms (emitted all)) 0 ≡ Some true
 head-valid all slots is valid = ap Some (ap (list_all valid_slot) (sym is) ∙ valid)
@@ -49,12 +45,12 @@ pub module-is : (all : List (Row Step Key)) (index : ℕ) (block : Option BlockT
 unfolding part_at
 module-is all index block is = rw add-one (slice_get-map top_text (emitted all).blocks index ∙ ap (option_map top_text) (sym is))
 
-pub module-valid : (all : List (Row Step Key)) (index : ℕ) (block : BlockTree) → Some block ≡ slice_get (emitted all).blocks index → valid_block One block ≡ true → slice_get (part_forms (emitted all)) (index + 1) ≡ Some true
+pub module-valid : (all : List (Row Step Key)) (index : ℕ) (block : BlockTree) → Some block ≡ slice_get (emitted all).blocks index → valid_block (emitted all).version block ≡ true → slice_get (part_forms (emitted all)) (index + 1) ≡ Some true
 module-valid all index block is valid =
     rw add-one
     (slice_get-map (valid_block (emitted all).version) (emitted all).blocks index
     ∙ (ap (option_map (valid_block (emitted all).version)) (sym is)
-    ∙ (ap (λ (version : Version). Some (valid_block version block)) (version-is all) ∙ ap Some valid)))
+    ∙ ap Some valid))
 
 -- a first part of a part
 pub prefix-of : {old now : Option (List ℕ)} (krate : CrateTree) (number : ℕ) (bytes : List ℕ) → part_at krate number ≡ Some bytes → AppendsPrefix old now bytes → AppendsPrefix old now (unwrap_or (part_at krate number) [])

@@ -7,8 +7,8 @@ ghost use Rattle.frag_tree.specs.Crates.{printed};
 ghost use Rattle.frag_tree.specs.Validity.{valid_crate};
 ghost use Rattle.pac_io.specs.Writing.{SinkCause, Writes};
 
-use crate_form::{crate_block, crate_slots};
-use frag_tree::{Version, print_head, print_top_block};
+use crate_form::{crate_block, crate_slots, crate_version};
+use frag_tree::{print_head, print_top_block};
 use pac_io::{Sink, SinkFault};
 use std::alloc::Global;
 use svd_model::Checked;
@@ -66,7 +66,7 @@ fn print_first<S: Sink>(alloc: Global, state: &Checked, sink: &mut S) -> Result<
     ensures cause { SinkCause result (S.faults sink.old) (S.faults sink.new) }
 {
     let slots = crate_slots(alloc, state)?;
-    print_head(alloc, Version::One, slots.as_slice(), sink)?;
+    print_head(alloc, crate_version(state), slots.as_slice(), sink)?;
     Ok(true)
 }
 

@@ -7,6 +7,7 @@ use Rattle.overlap_check.specs.declared.rule.Rule.{Rule}
 use Rattle.overlap_check.specs.Walks.{entered, entered_by, fails, fails_field, first_in, first_at, first_below, named, or_else}
 use Rattle.overlap_check.proofs.Stated.{bits_at-field, size-field}
 use Rattle.pac_base.specs.declared.path.Step.{Step as Written}
+use Rattle.reg_table.proofs.FieldMembers.{field-dim, field-increment}
 use Rattle.svd_model.specs.declared.device.Field.{Field}
 use Rattle.svd_model.specs.declared.device.Values.{Values}
 use Rattle.svd_model.specs.declared.device.Variant.{Variant}
@@ -90,10 +91,10 @@ size-entered : (keys : List Key) (outer : Place) → value_of stated_size keys �
 unfolding entered entered_by
 size-entered keys outer none = ap (λ o. unwrap_or o outer.size) none
 
--- a field breaks the rule by its bits and the size that holds there
-pub field-fails : (rule : Rule) (outer : Place) (key : Sibling) (element : Field) → first_at rule outer (field_under (key, element)) ≡ named key.name (cond (fails_field rule outer.size element.place) (Some []) None)
+-- a field breaks the rule by its bits, its members and the size that holds there
+pub field-fails : (rule : Rule) (outer : Place) (key : Sibling) (element : Field) → first_at rule outer (field_under (key, element)) ≡ named key.name (cond (fails_field rule outer.size element.dim.count element.dim.step element.place) (Some []) None)
 unfolding fails
 field-fails rule outer key element =
     ap₂ (λ found rest. named key.name (cond found (Some []) rest))
-    (ap₂ (λ size bits. fails_field rule size bits) (size-entered (stated (field_places element)) outer (size-field element)) (bits_at-field element))
+    (λ i. fails_field rule (size-entered (stated (field_places element)) outer (size-field element) i) (field-dim element i) (field-increment element i) (bits_at-field element i))
     (sets-pass rule (entered (stated (field_places element)) outer) 0 element.values.items)

@@ -4,9 +4,9 @@ use Rattle.std.proofs.Common.{◌≡◌, ℕ, ◌+◌, ◌-◌, ◌*◌, ◌%◌
 use Rattle.std.specs.List.{AllByRecursion, list_any, list_all, flat_map, range_with_len, sum_by, zip}
 use Rattle.std.proofs.lemmas.Bool.{or_left, or_right, or_from, true≢false}
 use Rattle.std.proofs.lemmas.Bool.Decides.{nat_tests}
-use Rattle.std.proofs.lemmas.List.Folds.{list_any-append}
+use Rattle.std.proofs.lemmas.List.Folds.{list_any-append, list_all-map}
 use Rattle.std.proofs.lemmas.List.Sums.{sum_by-cons}
-use Rattle.std.proofs.Math.Bool.{or-false}
+use Rattle.std.proofs.Math.Bool.{or-false, and-true, and-false}
 use Rattle.std.proofs.Math.Nat.{add-mod, mod-mod, zero-mod, mul-le-mul_right, zero-mul}
 use Rattle.svd_model.specs.Checking.{is_past}
 use Rattle.svd_model.specs.Keys.{Key}
@@ -39,6 +39,19 @@ any-up p up a (suc n) =
     by true e = sym (up a (a + 1 + n) (omega arith) e)
     by false e = refl
 
+-- of one that stays true below, it does for all
+all-down : (q : ℕ → Bool) → ((i j : ℕ) → i ≤ j → q j ≡ true → q i ≡ true) → (a n : ℕ) → list_all q (range_with_len a (suc n)) ≡ q (a + n)
+all-down q down a zero = and-true (q a) ∙ ap q (omega arith)
+all-down q down a (suc n) =
+    ap (λ b. q a && b) (all-down q down (a + 1) n) ∙ by (q (a + 1 + n)) refl ∙ ap q here
+  where
+    here : a + 1 + n ≡ a + suc n
+    here = omega arith
+
+    by : (b : Bool) → q (a + 1 + n) ≡ b → (q a && q (a + 1 + n)) ≡ q (a + 1 + n)
+    by true e = ap (λ b. b && q (a + 1 + n)) (down a (a + 1 + n) (omega arith) e)
+    by false e = ap (λ b. q a && b) e ∙ and-false (q a) ∙ sym e
+
 -- the index of a member, counted from 0
 abbrev number : Option ℕ → ℕ
 number index = unwrap_or index 0
@@ -48,6 +61,12 @@ indexes-up p up None some = or-false (p 0)
 indexes-up p up (Some zero) some = absurd (omega arith)
 indexes-up p up (Some (suc n)) some =
     any-map (λ x. p (number x)) (λ i. Some i) (range_with_len 0 (suc n)) ∙ any-up p up 0 n ∙ ap p (omega arith)
+
+pub indexes-down : (q : ℕ → Bool) → ((i j : ℕ) → i ≤ j → q j ≡ true → q i ≡ true) → (dim : Option ℕ) → 1 ≤ unwrap_or dim 1 → list_all (λ x. q (number x)) (indexes_of dim) ≡ q (unwrap_or dim 1 - 1)
+indexes-down q down None some = and-true (q 0)
+indexes-down q down (Some zero) some = absurd (omega arith)
+indexes-down q down (Some (suc n)) some =
+    list_all-map (λ x. q (number x)) (λ i. Some i) (range_with_len 0 (suc n)) ∙ all-down q down 0 n ∙ ap q (omega arith)
 
 -- ---- multiples
 

@@ -3,6 +3,7 @@ use Rattle.std.proofs.Common.{◌≡◌, ℕ, ◌+◌, ◌-◌, ◌*◌, ◌%◌
 use Rattle.std.specs.Bool.{⊤}
 use Rattle.std.specs.List.{AllByRecursion}
 use Rattle.std.proofs.lemmas.Bool.Decides.{nat_tests}
+use Rattle.std.proofs.Math.Nat.{mul-le-mul_right}
 use Rattle.std.proofs.lemmas.List.{reverse-append}
 use Rattle.std.proofs.lemmas.List.Elements.{filter-append}
 use Rattle.overlap_check.specs.declared.place.Place.{Place}
@@ -12,7 +13,7 @@ use Rattle.overlap_check.specs.Ruled.{faults_of}
 use Rattle.overlap_check.specs.Told.{told, told_path, first_of}
 use Rattle.overlap_check.specs.Walks.{entered, fails, bits_at, is_within, device_place, first_in, named, or_else, top}
 use Rattle.overlap_check.proofs.Elements.{paths-node, paths-tree, AreFound, are-found, element_at-behind, keys_at-element, keys_down-behind, ends_with-behind}
-use Rattle.overlap_check.proofs.Members.{IsSome, firsts, greatest, step_at}
+use Rattle.overlap_check.proofs.Members.{IsSome, firsts, greatest, indexes-down, step_at}
 use Rattle.overlap_check.proofs.Places.{Tells, Tells-entered, group-past, register-past, register-uneven}
 use Rattle.overlap_check.proofs.Stated.{size-device, dim-device, increment-device, base-device, offset-device}
 use Rattle.pac_base.specs.Widths.{bits_of}
@@ -24,7 +25,7 @@ use Rattle.svd_model.specs.Checking.{is_size, size_down, width_down, width_of, b
 use Rattle.svd_model.specs.Facts.{IsUnfoldedElement, IsUnfoldedTree, IsArrayDim}
 use Rattle.svd_model.specs.Keys.{Key, dim_count}
 use Rattle.svd_model.specs.Properties.{nearest}
-use Rattle.svd_model.specs.Stating.{value_of, stated_dim, properties_of, is_of, keys_at, keys_down, paths_of, paths_of_kind, ways_down}
+use Rattle.svd_model.specs.Stating.{value_of, stated_dim, stated_increment, stated_offset, stated_width, properties_of, is_of, keys_at, keys_down, paths_of, paths_of_kind, ways_down}
 use Rattle.svd_model.specs.Steps.{Step, Kind, peripheral, cluster, register, field, set, value, same_step, same_key}
 use Rattle.svd_model.specs.Trees.{device_tree, device_rows, device_places}
 use Rattle.svd_model.proofs.Steps.{same_step-finer}
@@ -63,11 +64,32 @@ faults-broken Fields all = filter-filter (λ path. not (is_field_within (bits_of
 
 -- ---- one element
 
-within-bounded : (width : WidthOf) (o w bound : ℕ) → 64 < bound → (nat_le 1 w && nat_le (o + w) (bits_of width)) ≡ (nat_le 1 w && nat_le (min (o + w) bound) (bits_of width))
-within-bounded W8 o w bound less = grind (arith, nat_tests)
-within-bounded W16 o w bound less = grind (arith, nat_tests)
-within-bounded W32 o w bound less = grind (arith, nat_tests)
-within-bounded W64 o w bound less = grind (arith, nat_tests)
+-- sums that end at a bound decide where a member ends
+end-bounded : (width : WidthOf) (o d w bound : ℕ) → 64 < bound → nat_le (o + d + w) (bits_of width) ≡ nat_le (min (min (o + w) bound + d) bound) (bits_of width)
+end-bounded W8 o d w bound less = grind (arith, nat_tests)
+end-bounded W16 o d w bound less = grind (arith, nat_tests)
+end-bounded W32 o d w bound less = grind (arith, nat_tests)
+end-bounded W64 o d w bound less = grind (arith, nat_tests)
+
+-- where a member ends that stands no further behind, no more bits are taken
+ends-down : (o s w bits i j : ℕ) → i ≤ j → nat_le (o + j * s + w) bits ≡ true → nat_le (o + i * s + w) bits ≡ true
+ends-down o s w bits i j le h = let before = mul-le-mul_right s le in grind (arith, nat_tests, before, h)
+
+-- each member of a field lies within a width where the last does
+members-within : (keys : List Key) (size : ℕ) → IsSome keys → is_field_within (bits_of (width_of size)) keys ≡ is_within size (value_of stated_dim keys) (value_of stated_increment keys) (bits_at keys)
+members-within keys size some =
+    ap (λ b. nat_le 1 width && b)
+    (indexes-down (λ n. nat_le (offset + n * step + width) (bits_of (width_of size))) (ends-down offset step width (bits_of (width_of size))) (value_of stated_dim keys) some
+    ∙ end-bounded (width_of size) offset ((unwrap_or (value_of stated_dim keys) 1 - 1) * step) width top (omega arith))
+  where
+    offset : ℕ
+    offset = unwrap_or (value_of stated_offset keys) 0
+
+    step : ℕ
+    step = unwrap_or (value_of stated_increment keys) 0
+
+    width : ℕ
+    width = unwrap_or (value_of stated_width keys) 1
 
 -- an element of the kind has a member past the addresses
 past_of : Kind → List (List Key) → Bool
@@ -88,9 +110,9 @@ past-by-kind all path set name number = rw (reverse-append path (record { kind =
 past-by-kind all path value name number = rw (reverse-append path (record { kind = value; name = name; number = number } ∷ [])) refl
 
 -- what an element breaks is told by its kind, its place and its keys
-broken-element : (rule : Rule) (all : List (Row Step Key)) (path : List Step) (s : Step) (keys : List Key) (down : List (List Key)) (place : Place) → keys_down all (path ++ s ∷ []) ≡ down → keys_at all (path ++ s ∷ []) ≡ keys → AllByRecursion IsSome down → Tells down place → broken rule all (path ++ s ∷ []) ≡ fails rule s.kind place keys
+broken-element : (rule : Rule) (all : List (Row Step Key)) (path : List Step) (s : Step) (keys : List Key) (down : List (List Key)) (place : Place) → keys_down all (path ++ s ∷ []) ≡ down → keys_at all (path ++ s ∷ []) ≡ keys → AllByRecursion IsSome down → IsSome keys → Tells down place → broken rule all (path ++ s ∷ []) ≡ fails rule s.kind place keys
 unfolding broken fails past_of
-broken-element Width all path s keys down place is_down is_keys some tells =
+broken-element Width all path s keys down place is_down is_keys some own tells =
     ap₂ (λ b d. b && not (is_size (size_down d))) (ends_with-behind (is_of register) path s) is_down
     ∙ ap (λ n. is_of register s && not (is_size n)) (sym tells.size)
     ∙ by s.kind
@@ -102,7 +124,7 @@ broken-element Width all path s keys down place is_down is_keys some tells =
     by field = refl
     by set = refl
     by value = refl
-broken-element Range all path s keys down place is_down is_keys some tells =
+broken-element Range all path s keys down place is_down is_keys some own tells =
     past-by-kind all path s.kind s.name s.number ∙ ap (past_of s.kind) is_down ∙ by s.kind
   where
     by : (kind : Kind) → past_of kind down ≡ fails Range kind place keys
@@ -112,7 +134,7 @@ broken-element Range all path s keys down place is_down is_keys some tells =
     by field = refl
     by set = refl
     by value = refl
-broken-element Alignment all path s keys down place is_down is_keys some tells =
+broken-element Alignment all path s keys down place is_down is_keys some own tells =
     ap₂ (λ b d. b && some_uneven (bytes_of (width_down d)) d) (ends_with-behind (is_of register) path s) is_down
     ∙ ap (λ b. is_of register s && b) (register-uneven down place some tells)
     ∙ by s.kind
@@ -124,13 +146,13 @@ broken-element Alignment all path s keys down place is_down is_keys some tells =
     by field = refl
     by set = refl
     by value = refl
-broken-element Fields all path s keys down place is_down is_keys some tells =
+broken-element Fields all path s keys down place is_down is_keys some own tells =
     ap₂ (λ b d. b && not (is_field_within (bits_of (width_down d)) (keys_at all (path ++ s ∷ [])))) (ends_with-behind (is_of field) path s) is_down
     ∙ ap₂ (λ n k. is_of field s && not (is_field_within (bits_of (width_of n)) k)) (sym tells.size) is_keys
-    ∙ ap (λ b. is_of field s && not b) (within-bounded (width_of place.size) (unwrap_or (bits_at keys).offset 0) (unwrap_or (bits_at keys).width 1) top (omega arith))
+    ∙ ap (λ b. is_of field s && not b) (members-within keys place.size own)
     ∙ by s.kind
   where
-    by : (kind : Kind) → (Rattle.svd_model.specs.Steps.same_kind field kind && not (is_within place.size (bits_at keys))) ≡ fails Fields kind place keys
+    by : (kind : Kind) → (Rattle.svd_model.specs.Steps.same_kind field kind && not (is_within place.size (value_of stated_dim keys) (value_of stated_increment keys) (bits_at keys))) ≡ fails Fields kind place keys
     by peripheral = refl
     by cluster = refl
     by register = refl
@@ -195,7 +217,7 @@ agrees-below : (rule : Rule) (tree : Tree Step Key) → IsDistinct same_step tre
 unfolding Agrees AreFound IsDistinct Every
 agrees-below rule tree distinct path part leaf down outer here found apart every is_down some tells = tt
 agrees-below rule tree distinct path part (node s keys c n) down outer here found apart every is_down some tells = (
-  broken-element rule (rows tree) path s keys (down ++ keys ∷ []) (entered keys outer) is_further is_keys some_further tells_further,
+  broken-element rule (rows tree) path s keys (down ++ keys ∷ []) (entered keys outer) is_further is_keys some_further (some-dim keys every.0.members) tells_further,
   subst (λ test. Agrees test rule (entered keys outer) c) (λ i below. broken rule (rows tree) (append_assoc path (s ∷ []) below i))
       (agrees-below rule tree distinct (path ++ s ∷ []) (record { keys = keys; below = c }) c (down ++ keys ∷ []) (entered keys outer) there (are-found c apart.1) apart.1 every.1 is_further some_further tells_further),
   agrees-below rule tree distinct path part n down outer here found.1 apart.2 every.2 is_down some tells,

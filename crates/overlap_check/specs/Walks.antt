@@ -65,14 +65,21 @@ fails_register Range place = register_past place
 fails_register Alignment place = is_uneven place
 fails_register Fields place = false
 
-abbrev pub is_within : ℕ → Bits → Bool
-is_within size bits = nat_le 1 (unwrap_or bits.width 1) && nat_le (min (unwrap_or bits.offset 0 + unwrap_or bits.width 1) top) (bits_of (width_of size))
+-- where the last member of a field ends that stands so often, each this many bits behind the one before, or the greatest
+-- number of 128 bits where it is above that
+abbrev pub last_end : Option ℕ → Option ℕ → Bits → ℕ
+last_end count step bits =
+    min (min (unwrap_or bits.offset 0 + unwrap_or bits.width 1) top + (unwrap_or count 1 - 1) * unwrap_or step 0) top
 
-abbrev pub fails_field : Rule → ℕ → Bits → Bool
-fails_field Fields size bits = not (is_within size bits)
-fails_field _ size bits = false
+-- the last member decides: no other ends behind it
+abbrev pub is_within : ℕ → Option ℕ → Option ℕ → Bits → Bool
+is_within size count step bits = nat_le 1 (unwrap_or bits.width 1) && nat_le (last_end count step bits) (bits_of (width_of size))
 
--- the bits of a field with these keys
+abbrev pub fails_field : Rule → ℕ → Option ℕ → Option ℕ → Bits → Bool
+fails_field Fields size count step bits = not (is_within size count step bits)
+fails_field _ size count step bits = false
+
+-- the bits of a field with these keys: those of its first member
 abbrev pub bits_at : List Key → Bits
 bits_at keys = record { offset = value_of stated_offset keys; width = value_of stated_width keys }
 
@@ -81,7 +88,8 @@ unfoldable pub fails : Rule → Kind → Place → List Key → Bool
 fails rule peripheral place keys = fails_group rule place
 fails rule cluster place keys = fails_group rule place
 fails rule register place keys = fails_register rule place
-fails rule field place keys = fails_field rule place.size (bits_at keys)
+fails rule field place keys =
+    fails_field rule place.size (value_of stated_dim keys) (value_of stated_increment keys) (bits_at keys)
 fails rule set place keys = false
 fails rule value place keys = false
 

@@ -1,5 +1,5 @@
 ghost use Rattle.std.specs.Prelude.{◌≡◌};
-ghost use Rattle.overlap_check.specs.Walks.{fails_group, fails_register, is_uneven, fails_field};
+ghost use Rattle.overlap_check.specs.Walks.{fails_group, fails_register, is_uneven, is_within, last_end, fails_field};
 
 use crate::place::{Place, width_of};
 use svd_model::Field;
@@ -13,7 +13,7 @@ pub enum Rule {
     Range,
     /// The address of a register is a multiple of its width.
     Alignment,
-    /// A field lies within its register.
+    /// Each member of a field lies within its register.
     Fields,
 }
 
@@ -42,7 +42,7 @@ impl Rule {
 
     /// Whether a field of a register of this place breaks it.
     pub fn fails_field(self, place: &Place, field: &Field) -> bool
-        ensures { result ≡ fails_field self place.now.size field.now.place }
+        ensures { result ≡ fails_field self place.now.size field.now.dim.count field.now.dim.step field.now.place }
     {
         match self {
             Rule::Fields => !is_within(place, field),
@@ -67,12 +67,23 @@ fn is_uneven(place: &Place) -> bool
     place.first % bytes != 0 || place.stride < bytes
 }
 
-/// Whether the field lies within a register of this place.
-fn is_within(place: &Place, field: &Field) -> bool
-    ensures { result ≡ Rattle.overlap_check.specs.Walks.is_within place.now.size field.now.place }
+/// Where the last member of the field ends, in bits, or the greatest number of 128 bits where it is above that.
+fn last_end(field: &Field) -> u128
+    ensures { result ≡ last_end field.now.dim.count field.now.dim.step field.now.place }
 {
     let offset = field.place.offset.unwrap_or(0);
     let width = field.place.width.unwrap_or(1);
+    let others = field.dim.count.unwrap_or(1).saturating_sub(1);
+    let step = field.dim.step.unwrap_or(0);
+    offset
+        .saturating_add(width)
+        .saturating_add(others as u128 * step as u128)
+}
+
+/// Whether each member of the field lies within a register of this place: no other ends behind the last.
+fn is_within(place: &Place, field: &Field) -> bool
+    ensures { result ≡ is_within place.now.size field.now.dim.count field.now.dim.step field.now.place }
+{
     let bits = width_of(place.size).bits() as u128;
-    1 <= width && offset.saturating_add(width) <= bits
+    1 <= field.place.width.unwrap_or(1) && last_end(field) <= bits
 }

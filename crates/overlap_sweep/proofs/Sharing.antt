@@ -13,9 +13,9 @@ use Rattle.overlap_sweep.specs.Kept.{all_spots, declared_spot, declared_spots, e
 use Rattle.overlap_sweep.specs.Search.{first_against, first_pair, or_else}
 use Rattle.overlap_sweep.proofs.First.{first-pairs}
 use Rattle.overlap_sweep.proofs.Searching.{drop-here, drop-beyond}
-use Rattle.overlap_sweep.proofs.Stated.{field-dim, field-increment}
 use Rattle.reg_table.specs.Calls.{parts}
 use Rattle.reg_table.specs.Fields.{FieldFits, field_part}
+use Rattle.reg_table.proofs.FieldMembers.{field-dim, field-increment}
 use Rattle.reg_table.specs.Registers.{access_of}
 use Rattle.reg_table.specs.Walk.{index_at}
 use Rattle.reg_table.proofs.Exchanges.{flat_map-agree}
@@ -154,7 +154,7 @@ widest W32 = lit≤ tt
 widest W64 = lit≤ tt
 
 pub offset-small : (width : Width) (entry : Sibling × Field) → FieldFits (bits_of width) entry → unwrap_or entry.1.place.offset 0 ≤ 64
-offset-small width entry fit = let wide = widest width in let end = fit.within in omega (arith, wide, end)
+offset-small width entry fit = let wide = widest width in let end = fit.first in omega (arith, wide, end)
 
 spot-entry : (access : Access) (entry : Sibling × Field) (index : Option ℕ) → field_spot access (field_part entry) index ≡ declared_spot (can_read access && passes_at can_read entry.1.access) (can_write access && passes_at can_write entry.1.access) entry.0 entry.1 index
 unfolding field_spot

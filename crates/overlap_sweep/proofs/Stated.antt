@@ -2,13 +2,12 @@
 use Rattle.std.proofs.Common.{◌≡◌, None, refl, ◌∙◌}
 use Rattle.overlap_sweep.specs.Overlaps.{stated_alternate, stated_group}
 use Rattle.svd_model.specs.declared.device.Child.TheOpen.{Cluster-F}
-use Rattle.svd_model.specs.declared.device.Field.{Field}
 use Rattle.svd_model.specs.declared.device.Register.{Register}
-use Rattle.svd_model.specs.Keys.{Key, rank, dim_count, dim_increment, alternate_of, alternate_group}
-use Rattle.svd_model.specs.Stating.{value_of, stated_dim, stated_increment}
-use Rattle.svd_model.specs.Trees.{cluster_places, field_places, register_places}
-use Rattle.svd_model.proofs.Placed.{cluster-placed, field-placed, register-placed}
-use Rattle.svd_model.proofs.Stated.{found, other-dim, stated_back}
+use Rattle.svd_model.specs.Keys.{Key, rank, alternate_of, alternate_group}
+use Rattle.svd_model.specs.Stating.{value_of}
+use Rattle.svd_model.specs.Trees.{cluster_places, register_places}
+use Rattle.svd_model.proofs.Placed.{cluster-placed, register-placed}
+use Rattle.svd_model.proofs.Stated.{found, stated_back}
 use Rattle.svd_rows.specs.Ranks.{stated}
 
 other-alternate : (key : Key) → (rank key ≡ 8 → ⊥) → stated_alternate key ≡ None
@@ -32,16 +31,3 @@ register-group e = found stated_group 9 other-group (register_places e) (registe
 pub cluster-alternate : {A B C : Type 0} (e : Cluster-F A B C) → value_of stated_alternate (stated (cluster_places e)) ≡ e.alternate
 unfolding cluster_places
 cluster-alternate e = found stated_alternate 8 other-alternate (cluster_places e) (cluster-placed e) ∙ stated_back alternate_of stated_alternate (λ name. refl) e.alternate
-
-other-increment : (key : Key) → (rank key ≡ 3 → ⊥) → stated_increment key ≡ None
-unfolding rank
-other-increment (dim_increment n) h = absurd (h refl)
-other-increment _ h = refl
-
-pub field-dim : (e : Field) → value_of stated_dim (stated (field_places e)) ≡ e.dim.count
-unfolding field_places
-field-dim e = found stated_dim 2 other-dim (field_places e) (field-placed e) ∙ stated_back dim_count stated_dim (λ n. refl) e.dim.count
-
-pub field-increment : (e : Field) → value_of stated_increment (stated (field_places e)) ≡ e.dim.step
-unfolding field_places
-field-increment e = found stated_increment 3 other-increment (field_places e) (field-placed e) ∙ stated_back dim_increment stated_increment (λ n. refl) e.dim.step

@@ -1,6 +1,6 @@
 -- Which members of fields of one register share a bit and may not: those that are both readable or both writable (this
 -- project's own rule).
-use Rattle.std.specs.Prelude.{ℕ, ◌+◌, ◌*◌, Bool, ◌&&◌, ◌||◌, nat_lt, List, [], ◌∷◌, map, filter, Option, None, Some, option_map, unwrap_or}
+use Rattle.std.specs.Prelude.{ℕ, ◌+◌, Bool, ◌&&◌, ◌||◌, nat_lt, List, [], ◌∷◌, map, filter, Option, None, Some, option_map}
 use Rattle.std.specs.List.{flat_map}
 use Rattle.pac_base.specs.declared.path.Step.{Step as Written}
 use Rattle.overlap_sweep.specs.declared.field.FieldPair.{FieldPair}
@@ -9,10 +9,10 @@ use Rattle.reg_table.specs.Calls.{parts}
 use Rattle.reg_table.specs.Fields.{width_in}
 use Rattle.reg_table.specs.Registers.{access_of}
 use Rattle.svd_model.specs.declared.props.Props.{Props}
-use Rattle.svd_model.specs.Checking.{pairs_behind}
+use Rattle.svd_model.specs.Checking.{bit_of, pairs_behind}
 use Rattle.svd_model.specs.Keys.{Key}
 use Rattle.svd_model.specs.Properties.{can_read, can_write, passes_at}
-use Rattle.svd_model.specs.Stating.{value_of, stated_access, stated_dim, stated_increment, stated_offset, indexes_of}
+use Rattle.svd_model.specs.Stating.{value_of, stated_access, stated_dim, indexes_of}
 use Rattle.svd_model.specs.Steps.{Step}
 use Rattle.svd_rows.specs.LookUps.{keys_of}
 use Rattle.svd_rows.specs.Rows.{Row}
@@ -32,7 +32,7 @@ unfoldable pub field_spot : Access → (Step × List (Row Step Key)) → Option 
 field_spot access part index = record {
   name = part.0.name;
   index = index;
-  start = unwrap_or (value_of stated_offset (keys_of part.1)) 0 + unwrap_or index 0 * unwrap_or (value_of stated_increment (keys_of part.1)) 0;
+  start = bit_of (keys_of part.1) index;
   bits = width_in (keys_of part.1);
   readable = can_read access && passes_at can_read (value_of stated_access (keys_of part.1));
   writable = can_write access && passes_at can_write (value_of stated_access (keys_of part.1));

@@ -1,11 +1,14 @@
 use crate::harness::{ONE_REGISTER, call, described, file, listing, refusal};
 use pac_io::MemSink;
+use std::process::Abort;
 use std::test::Fail;
 
 const HEAD: &str = "use crate::generic::*;
 
 pub struct Peripherals {
 ";
+
+const VERSION_TWO: &str = "pub const CRATE_TEXT: u32 = 0x2;\n";
 
 // Registers of `T`, and what stands behind the first lines of the text of its crate.
 const GENERATED: [(&str, &str, &str); 3] = [
@@ -111,24 +114,67 @@ const GENERATED: [(&str, &str, &str); 3] = [
     ),
 ];
 
+// An array of fields has one reader and one writer, which take an index.
+const ARRAY_OF_FIELDS: (&str, &str) = (
+    "<register><name>R</name><addressOffset>0</addressOffset><fields><field><name>LV[%s]</name><dim>4</dim><dimIncrement>8</dimIncrement><bitOffset>0</bitOffset><bitWidth>2</bitWidth></field></fields></register>",
+    "        r: Reg<r::Spec>,
+    }
+    impl RegisterBlock {
+        pub fn r(&self) -> &Reg<r::Spec> { &self.r }
+    }
+    pub mod r {
+        use crate::generic::*;
+        pub struct Spec;
+        impl RegisterSpec for Spec { type Ux = u32; }
+        impl Readable for Spec {}
+        impl Writable for Spec { const ZERO_TO_MODIFY: u32 = 0x0; const ONE_TO_MODIFY: u32 = 0x0; }
+        impl Resettable for Spec { const RESET_VALUE: u32 = 0x0; }
+        pub struct LV_F;
+        impl R<Spec> {
+            pub fn lv(&self, n: usize) -> FieldReader<LV_F, u8> { FieldReader::new(((self.bits >> at_bit(0, 8, 4, n)) & 0x3) as u8) }
+        }
+        impl W<Spec> {
+            pub fn lv(&mut self, n: usize) -> FieldWriter<'_, Spec, LV_F, u8, 2> { FieldWriter::new(self, at_bit(0, 8, 4, n)) }
+        }
+    }
+}
+",
+);
+
+/// Generates the crate of these registers, and compares its text: `version`, the first lines, and `text` behind them.
+fn generates(
+    rt: &(impl Abort + AllocGlobal),
+    row: &str,
+    registers: &str,
+    version: &str,
+    text: &str,
+) -> Result<(), Fail> {
+    let files = file(rt, "x.svd", described(rt, registers)?.as_bytes())?;
+    let out = MemSink::new(rt.alloc());
+    let wanted = format!(in rt.alloc();
+        "{version}{HEAD}    pub T: Periph<t::RegisterBlock, 0x40000000>,\n}}\n\npub mod t {{\n    use crate::generic::*;\n    #[repr(C)]\n    pub struct RegisterBlock {{\n{text}"
+    )?;
+    call(
+        rt,
+        &["generate", "x.svd"],
+        files,
+        out,
+        &listing(row, wanted.as_str()),
+    )
+}
+
 #[test]
 fn generated_crates(rt: HostRuntime) -> Result<(), Fail> {
     for (row, registers, text) in GENERATED {
-        let files = file(&rt, "x.svd", described(&rt, registers)?.as_bytes())?;
-        let out = MemSink::new(rt.alloc());
-        let wanted = format!(in rt.alloc();
-            "{HEAD}    pub T: Periph<t::RegisterBlock, 0x40000000>,\n}}\n\npub mod t {{\n    use crate::generic::*;\n    #[repr(C)]\n    pub struct RegisterBlock {{\n{}",
-            text
-        )?;
-        call(
-            &rt,
-            &["generate", "x.svd"],
-            files,
-            out,
-            &listing(row, wanted.as_str()),
-        )?;
+        generates(&rt, row, registers, "", text)?;
     }
     Ok(())
+}
+
+#[test]
+fn an_array_of_fields(rt: HostRuntime) -> Result<(), Fail> {
+    let (registers, text) = ARRAY_OF_FIELDS;
+    generates(&rt, "array_of_fields", registers, VERSION_TWO, text)
 }
 
 #[test]

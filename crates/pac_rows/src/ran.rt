@@ -3,7 +3,7 @@ use pac_io::{MemFiles, MemSink};
 use std::test::Fail;
 
 // Registers of `T`, a script, the bus, and the lines that it prints.
-const RUNS: [(&str, &str, &str, &str); 9] = [
+const RUNS: [(&str, &str, &str, &str); 11] = [
     (
         "<register><name>SR</name><addressOffset>0</addressOffset><resetValue>3</resetValue><fields><field><name>F0</name><bitOffset>0</bitOffset><bitWidth>1</bitWidth><modifiedWriteValues>oneToClear</modifiedWriteValues></field><field><name>F1</name><bitOffset>1</bitOffset><bitWidth>1</bitWidth></field></fields></register>",
         "T.sr().write(|w| w.f1().set_bit());",
@@ -45,6 +45,19 @@ const RUNS: [(&str, &str, &str, &str); 9] = [
         "T.r().write(|w| w);",
         "zero",
         "write 0x40000000 32 0x00000001\n",
+    ),
+    // The last member of an array of fields, and all of them cleared by writing 1.
+    (
+        "<register><name>R</name><addressOffset>0</addressOffset><fields><field><name>LV[%s]</name><dim>4</dim><dimIncrement>8</dimIncrement><bitOffset>0</bitOffset><bitWidth>2</bitWidth></field></fields></register>",
+        "T.r().write(|w| w.lv(3).bits(2));",
+        "zero",
+        "write 0x40000000 32 0x02000000\n",
+    ),
+    (
+        "<register><name>R</name><addressOffset>0</addressOffset><resetValue>0xffffffff</resetValue><fields><field><name>LV[%s]</name><dim>4</dim><dimIncrement>8</dimIncrement><bitOffset>0</bitOffset><bitWidth>2</bitWidth><modifiedWriteValues>oneToClear</modifiedWriteValues></field></fields></register>",
+        "T.r().write(|w| w);\nT.r().write(|w| w.lv(1).bits(1));",
+        "zero",
+        "write 0x40000000 32 0xfcfcfcfc\nwrite 0x40000000 32 0xfcfcfdfc\n",
     ),
     // Two registers at one address: the preset of the second call stands over that of the first.
     (

@@ -47,7 +47,7 @@ fn listed_descriptions(rt: HostRuntime) -> Result<(), Fail> {
 }
 
 // Registers of `T`, and the lines that list them.
-const LISTED: [(&str, &str, &str); 9] = [
+const LISTED: [(&str, &str, &str); 10] = [
     (
         "whole_64_bit_word",
         "<register><name>L</name><addressOffset>0</addressOffset><size>64</size><fields><field><name>V</name><bitOffset>0</bitOffset><bitWidth>64</bitWidth></field></fields></register>",
@@ -92,6 +92,11 @@ const LISTED: [(&str, &str, &str); 9] = [
         "list_of_fields",
         "<register><name>R</name><addressOffset>0</addressOffset><fields><field><name>F%s</name><bitOffset>1</bitOffset><bitWidth>1</bitWidth><dim>3</dim><dimIncrement>2</dimIncrement></field></fields></register>",
         "T.r 0x40000000 32 rw 0x00000000\n  f0 [1:1] rw modify\n  f1 [3:3] rw modify\n  f2 [5:5] rw modify\n",
+    ),
+    (
+        "array_of_fields",
+        "<register><name>R</name><addressOffset>0</addressOffset><fields><field><name>LV[%s]</name><dim>4</dim><dimIncrement>8</dimIncrement><bitOffset>0</bitOffset><bitWidth>2</bitWidth></field></fields></register>",
+        "T.r 0x40000000 32 rw 0x00000000\n  lv[0] [1:0] rw modify\n  lv[1] [9:8] rw modify\n  lv[2] [17:16] rw modify\n  lv[3] [25:24] rw modify\n",
     ),
 ];
 

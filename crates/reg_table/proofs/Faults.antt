@@ -161,6 +161,11 @@ as_many [] (index ∷ chosen) has = absurd has
 as_many (keys ∷ down) [] has = absurd has
 as_many (keys ∷ down) (index ∷ chosen) has = ap suc (as_many down chosen has.2)
 
+some-member : (count : Option ℕ) → (count ≡ Some 0 → ⊥) → 1 ≤ unwrap_or count 1
+some-member None none = omega arith
+some-member (Some zero) none = absurd (none refl)
+some-member (Some (suc n)) none = omega arith
+
 -- the dimension of an array has a member
 pub has-members : (keys : List Key) → AllByRecursion IsArrayDim keys → HasMembers keys
 unfolding value_of
@@ -226,8 +231,10 @@ module _ (path : List Step) (down : List (List Key)) (chosen : List (Option ℕ)
     none-past (bytes_of (width_down (down ++ ks ∷ []))) (down ++ ks ∷ []) (chosen ++ index ∷ []) has (told.past path _ refl),
     distinct,
   )
-  fits-here field told element distinct has =
-      ap (is_field_within (bits_of (width_down (down ++ ks ∷ [])))) (sym (keys_of-rows (record { keys = ks; below = c }))) ∙ told.fields (ends-with (is_of field) path (record { kind = field; name = name; number = number }))
+  fits-here field told element distinct has = (
+    ap (is_field_within (bits_of (width_down (down ++ ks ∷ [])))) (sym (keys_of-rows (record { keys = ks; below = c }))) ∙ told.fields (ends-with (is_of field) path (record { kind = field; name = name; number = number })),
+    some-member (value_of stated_dim ks) (has-members ks element.members),
+  )
   fits-here set told element distinct has = tt
   fits-here value told element distinct has = element.form.0
 

@@ -1,5 +1,5 @@
 -- The row of a register, gathered from the declared register, is that from its rows.
-use Rattle.std.proofs.Common.{◌≡◌, ℕ, ◌+◌, ◌%◌, ◌^◌, ◌<◌, ◌≤◌, Bool, true, List, [], ◌∷◌, map, Option, unwrap_or, bit_and, zero, suc, refl, sym, ap, ap₂, ◌∙◌, subst, arith, lit≤}
+use Rattle.std.proofs.Common.{◌≡◌, ℕ, ◌+◌, ◌*◌, ◌%◌, ◌^◌, ◌<◌, ◌≤◌, Bool, true, List, [], ◌∷◌, map, Option, Some, None, option_map, unwrap_or, bit_and, zero, suc, refl, sym, ap, ap₂, ◌∙◌, subst, arith, lit≤}
 use Rattle.std.specs.List.{AllByRecursion}
 use Rattle.std.specs.Prelude.{All}
 use Rattle.std.proofs.lemmas.Bool.Decides.{nat_tests}
@@ -8,9 +8,10 @@ use Rattle.pac_base.specs.Widths.{bits_of, IsLeastWidth}
 use Rattle.pac_base.specs.declared.width.Width.{Width}
 use Rattle.pac_base.specs.declared.width.Width.TheVariants.{W8, W16, W32, W64}
 use Rattle.reg_table.specs.Calls.{parts}
-use Rattle.reg_table.specs.Fields.{FieldFits, field_part, field_row}
+use Rattle.reg_table.specs.Fields.{FieldFits, bit_at, field_dim, field_part, field_row}
 use Rattle.reg_table.specs.Listing.{FitsIn, IsListed}
 use Rattle.reg_table.specs.Masks.{is_by_one, is_by_zero, mask_of}
+use Rattle.reg_table.specs.Members.{IsIndexOf, member_behind}
 use Rattle.reg_table.specs.Registers.{register_row, access_of, fields_of, cut_reset}
 use Rattle.reg_table.specs.declared.row.FieldRow.{FieldRow}
 use Rattle.reg_table.specs.declared.row.RowPath.{RowPath}
@@ -104,14 +105,26 @@ widest W16 = lit≤ tt
 widest W32 = lit≤ tt
 widest W64 = lit≤ tt
 
+-- the members of a declared field are those of its row
+pub each-within : (bits : ℕ) (field : Field) → ((index : Option ℕ) → IsIndexOf field.dim.count index → bit_at field index + unwrap_or field.place.width 1 ≤ bits)
+    → (index : Option ℕ) → IsIndexOf (option_map (λ dim. dim.count) (field_dim field.dim.count field.dim.step)) index → unwrap_or field.place.offset 0 + member_behind (field_dim field.dim.count field.dim.step) index + unwrap_or field.place.width 1 ≤ bits
+each-within bits field fit = by field.dim.count (λ index is. fit index is)
+  where
+    by : (count : Option ℕ) → ((index : Option ℕ) → IsIndexOf count index → bit_at field index + unwrap_or field.place.width 1 ≤ bits)
+        → (index : Option ℕ) → IsIndexOf (option_map (λ dim. dim.count) (field_dim count field.dim.step)) index → unwrap_or field.place.offset 0 + member_behind (field_dim count field.dim.step) index + unwrap_or field.place.width 1 ≤ bits
+    by None fit None is = let end = fit None tt in omega (arith, end)
+    by None fit (Some index) is = absurd is
+    by (Some count) fit index is = inside index is
+      where
+        inside : (index : Option ℕ) → IsIndexOf (Some count) index → unwrap_or field.place.offset 0 + unwrap_or index 0 * unwrap_or field.dim.step 0 + unwrap_or field.place.width 1 ≤ bits
+        inside index is = fit index is
+
 -- the rows of fields that fit in so many bits lie within as many, or more
 rows-within : (bits limit : ℕ) → bits ≤ limit → (readable writable : Bool) (kind : Option WriteKind) (entries : List (Sibling × Field)) → AllByRecursion (FieldFits bits) entries → All (FitsIn limit) (map (λ entry. field_row readable writable kind (field_part entry)) entries)
 rows-within bits limit wide readable writable kind [] fit k d within = absurd (omega (arith, within))
 rows-within bits limit wide readable writable kind (entry ∷ entries) fit zero d within =
     let row = row-field entry.0 entry.1 readable writable kind fit.0.distinct in
-    let end = fit.0.within in
-    let whole : unwrap_or entry.1.place.offset 0 + unwrap_or entry.1.place.width 1 ≤ limit = omega arith in
-    subst (FitsIn limit) (sym row) (record { some = fit.0.some; within = whole })
+    subst (FitsIn limit) (sym row) (record { some = fit.0.some; within = each-within limit entry.1 (λ index is. let end = fit.0.within index is in omega (arith, wide, end)) })
 rows-within bits limit wide readable writable kind (entry ∷ entries) fit (suc k) d within =
     rows-within bits limit wide readable writable kind entries fit.1 k d (omega (arith, within))
 

@@ -1,6 +1,7 @@
 pub mod Calling
 pub mod Exchanges
 pub mod Faults
+pub mod FieldMembers
 pub mod Gathering
 pub mod Masking
 pub mod Members

@@ -1,16 +1,17 @@
 -- The children of an element with their rows, as the tree has them.
-use Rattle.std.proofs.Common.{◌≡◌, ℕ, ◌+◌, Bool, ◌&&◌, List, [], ◌∷◌, map, Option, None, unwrap_or, refl, sym, ap, ap₂, ◌∙◌, subst}
+use Rattle.std.proofs.Common.{◌≡◌, ℕ, ◌+◌, Bool, ◌&&◌, List, [], ◌∷◌, map, Option, unwrap_or, refl, sym, ap, ap₂, ◌∙◌, subst}
 use Rattle.reg_table.specs.Calls.{parts, value_part, set_part, sets_of, plain_value, plain_set, set_calls_of, serves_reading, serves_writing}
-use Rattle.reg_table.specs.Fields.{field_row, field_part, width_in}
+use Rattle.reg_table.specs.Fields.{field_dim, field_row, field_part, width_in}
 use Rattle.svd_model.specs.declared.device.Field.{Field}
 use Rattle.svd_model.specs.declared.device.Values.{Values}
 use Rattle.svd_model.specs.declared.device.Variant.{Variant}
 use Rattle.svd_model.specs.declared.sibling.Sibling.{Sibling}
 use Rattle.svd_model.specs.Keys.{Key}
 use Rattle.svd_model.specs.Properties.{nearest, can_read, can_write, passes_at}
-use Rattle.svd_model.specs.Stating.{value_of, stated_offset, stated_width, stated_access, stated_kind, stated_usage, stated_number}
+use Rattle.svd_model.specs.Stating.{value_of, stated_offset, stated_width, stated_access, stated_kind, stated_dim, stated_increment, stated_usage, stated_number}
 use Rattle.svd_model.specs.Steps.{Step, set, value, same_step}
 use Rattle.svd_model.specs.Trees.{field_places, field_tree, set_tree, value_tree, numbered}
+use Rattle.reg_table.proofs.FieldMembers.{field-dim, field-increment}
 use Rattle.svd_model.proofs.Stated.{field-offset, field-width, field-access, field-kind, set-usage, value-number}
 use Rattle.svd_model.proofs.Walking.{child_rows}
 use Rattle.svd_rows.specs.Elements.{IsDistinct}
@@ -98,7 +99,7 @@ module _ (key : Sibling) (field : Field) where
     name = accessor_name key.name;
     offset = unwrap_or field.place.offset 0;
     width = unwrap_or field.place.width 1;
-    dim = None;
+    dim = field_dim field.dim.count field.dim.step;
     readable = readable && passes_at can_read field.access;
     writable = writable && passes_at can_write field.access;
     kind = unwrap_or (nearest (field.kind ∷ kind ∷ [])) Modify;
@@ -109,12 +110,14 @@ module _ (key : Sibling) (field : Field) where
   row-field readable writable kind distinct =
       let offset = ap (value_of stated_offset) keys-field ∙ field-offset field in
       let of_kind = ap (value_of stated_kind) keys-field ∙ field-kind field in
+      let count = ap (value_of stated_dim) keys-field ∙ field-dim field in
+      let step = ap (value_of stated_increment) keys-field ∙ field-increment field in
       let sets = sets-field field distinct in
       λ i. record {
         name = accessor_name key.name;
         offset = unwrap_or (offset i) 0;
         width = width-field i;
-        dim = None;
+        dim = field_dim (count i) (step i);
         readable = readable && passes_at can_read (access-field i);
         writable = writable && passes_at can_write (access-field i);
         kind = unwrap_or (nearest (of_kind i ∷ kind ∷ [])) Modify;

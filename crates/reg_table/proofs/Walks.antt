@@ -1,15 +1,16 @@
 -- The walk of a tree: what it meets among siblings, and at registers and clusters.
-use Rattle.std.proofs.Common.{◌≡◌, ℕ, zero, suc, ◌+◌, ◌*◌, ◌<◌, ◌≤◌, ◌^◌, true, false, ◌&&◌, cond, List, [], ◌∷◌, ◌++◌, map, Option, Some, None, unwrap_or, refl, sym, ap, ap₂, ◌∙◌, subst, arith, zero-add, nat_le, append-nil}
+use Rattle.std.proofs.Common.{◌≡◌, ℕ, zero, suc, ◌+◌, ◌*◌, ◌<◌, ◌≤◌, ◌^◌, true, false, cond, List, [], ◌∷◌, ◌++◌, map, Option, Some, None, unwrap_or, refl, sym, ap, ap₂, ◌∙◌, subst, arith, zero-add, append-nil}
 use Rattle.std.specs.List.{AllByRecursion, flat_map, range_with_len}
 use Rattle.std.proofs.lemmas.List.{flat_map_more}
 use Rattle.std.proofs.lemmas.List.Folds.{flat_map-map}
-use Rattle.std.proofs.lemmas.Bool.Decides.{nat_tests}
 use Rattle.pac_base.specs.Widths.{bits_of}
 use Rattle.reg_table.specs.Calls.{AreNamed, SetsAreNamed}
-use Rattle.reg_table.specs.Fields.{FieldFits}
+use Rattle.reg_table.specs.Fields.{FieldFits, bit_at}
+use Rattle.reg_table.specs.Members.{IsIndexOf}
 use Rattle.reg_table.specs.Registers.{register_row}
 use Rattle.reg_table.specs.Walk.{AllFit, FitIn, IsAmong, index_at, member_rows, rows_in, rows_of_peripherals, props_inside, path_inside, peripheral_path}
 use Rattle.reg_table.specs.declared.row.RowPath.{RowPath}
+use Rattle.reg_table.proofs.FieldMembers.{field-dim, field-increment, first-within, index-within, some-bit}
 use Rattle.svd_model.specs.declared.device.Child.TheOpen.{Cluster-F}
 use Rattle.svd_model.specs.declared.device.Child.TheVariants.{Cluster as AsCluster, Register as AsRegister}
 use Rattle.svd_model.specs.declared.device.Cluster.{Cluster, out-Cluster}
@@ -21,10 +22,10 @@ use Rattle.svd_model.specs.declared.device.Values.{Values}
 use Rattle.svd_model.specs.declared.device.Variant.{Variant}
 use Rattle.svd_model.specs.declared.props.Props.{Props}
 use Rattle.svd_model.specs.declared.sibling.Sibling.{Sibling}
-use Rattle.svd_model.specs.Checking.{width_of, bytes_of, is_size, is_field_within}
+use Rattle.svd_model.specs.Checking.{bit_of, width_of, bytes_of, is_size, is_field_within}
 use Rattle.svd_model.specs.Keys.{Key}
 use Rattle.svd_model.specs.Properties.{nearest, holding, size_at}
-use Rattle.svd_model.specs.Stating.{value_of, start_of, stated_base, stated_offset, stated_increment, stated_dim, indexes_of, is_of}
+use Rattle.svd_model.specs.Stating.{value_of, start_of, stated_base, stated_offset, stated_increment, stated_dim, stated_width, indexes_of, is_of}
 use Rattle.svd_model.specs.Steps.{Step, set, value, cluster, register, same_step}
 use Rattle.svd_model.specs.Trees.{item_under, child_tree, field_under, register_tree, peripheral_under, register_places, cluster_places, peripheral_places, field_places, step_of, set_tree, value_tree, numbered}
 use Rattle.svd_model.specs.Unbuilt.{register_under, cluster_under}
@@ -61,7 +62,7 @@ module _ (path : RowPath) (start : ℕ) (outer : Props) where
   all-members x count n is all =
       ap₂ (λ dim m. flat_map (λ number. member_rows path start outer x (index_at dim number)) (range_with_len 0 m)) is (all ∙ ap (λ dim. unwrap_or dim 1) is) ∙ sym (rows-members x)
 
-range-more : (a n : ℕ) → range_with_len a (suc n) ≡ range_with_len a n ++ (a + n) ∷ []
+pub range-more : (a n : ℕ) → range_with_len a (suc n) ≡ range_with_len a n ++ (a + n) ∷ []
 range-more a zero = ap (λ m. m ∷ []) (omega arith)
 range-more a (suc n) = ap (λ r. a ∷ r) (range-more (a + 1) n ∙ ap (λ m. range_with_len (a + 1) n ++ m ∷ []) (omega arith))
 
@@ -179,16 +180,33 @@ unfolding FitIn siblings IsDistinct
 fields-fit start outer [] fit distinct = tt
 fields-fit start outer (entry ∷ entries) fit distinct = (one, fields-fit start outer entries fit.1 distinct.2)
   where
-    within : is_field_within (bits_of (width_of (size_at outer))) (stated (field_places entry.1)) ≡ true
-    within = ap (λ size. is_field_within (bits_of (width_of size)) (stated (field_places entry.1))) (sym (field-inside entry.1 outer)) ∙ (fit.0 None tt).0
+    bits : ℕ
+    bits = bits_of (width_of (size_at outer))
 
-    plain : (nat_le 1 (unwrap_or entry.1.place.width 1) && nat_le (unwrap_or entry.1.place.offset 0 + unwrap_or entry.1.place.width 1) (bits_of (width_of (size_at outer)))) ≡ true
-    plain = ap₂ (λ o w. nat_le 1 (unwrap_or w 1) && nat_le (unwrap_or o 0 + unwrap_or w 1) (bits_of (width_of (size_at outer)))) (sym (field-offset entry.1)) (sym (field-width entry.1)) ∙ within
+    keys : List Key
+    keys = stated (field_places entry.1)
 
-    one : FieldFits (bits_of (width_of (size_at outer))) entry
+    here : (is_field_within bits keys ≡ true) × (1 ≤ unwrap_or (value_of stated_dim keys) 1)
+    here = subst (λ size. (is_field_within (bits_of (width_of size)) keys ≡ true) × (1 ≤ unwrap_or (value_of stated_dim keys) 1)) (field-inside entry.1 outer) (fit.0 None tt).0
+
+    width : unwrap_or (value_of stated_width keys) 1 ≡ unwrap_or entry.1.place.width 1
+    width = ap (λ w. unwrap_or w 1) (field-width entry.1)
+
+    place : (index : Option ℕ) → bit_of keys index ≡ bit_at entry.1 index
+    place index = ap₂ (λ o s. unwrap_or o 0 + unwrap_or index 0 * unwrap_or s 0) (field-offset entry.1) (field-increment entry.1)
+
+    first : unwrap_or entry.1.place.offset 0 + unwrap_or entry.1.place.width 1 ≤ bits
+    first = let begins = place None in let all = first-within bits keys here.0 here.1 in omega (arith, begins, width, all)
+
+    one : FieldFits bits entry
     one = record {
-      some = grind (arith, nat_tests, plain);
-      within = grind (arith, nat_tests, plain);
+      some = subst (λ n. 1 ≤ n) width (some-bit bits keys here.0);
+      members = subst (λ (count : Option ℕ). 1 ≤ unwrap_or count 1) (field-dim entry.1) here.1;
+      first = first;
+      within = λ index is.
+          let begins = place index in
+          let end = index-within bits keys here.0 index (subst (λ count. IsIndexOf count index) (sym (field-dim entry.1)) is) in
+          omega (arith, begins, width, end);
       named = sets-named _ 0 _ entry.1.values.items (fit.0 None tt).1;
       distinct = distinct.1;
     }

@@ -1,5 +1,6 @@
 -- The listing of a register table. This project's own format: for each register a line with its path, address, width in
--- bits, directions and reset word, and for each of its fields a line with its name, bits, directions and kind.
+-- bits, directions and reset word, and for each of its fields, and each member of an array of fields, a line with its
+-- name, bits, directions and kind.
 use Rattle.std.specs.Prelude.{ℕ, ◌+◌, ◌-◌, ◌≤◌, ◌<◌, ◌/◌, ◌^◌, Bool, true, false, List, [], ◌++◌, codes, decimal, Option, Some, None, All}
 use Rattle.std.specs.List.{flat_map}
 use Rattle.pac_base.specs.Widths.{bits_of}
@@ -8,6 +9,7 @@ use Rattle.pac_io.specs.Numerals.{hexadecimal}
 use Rattle.reg_table.specs.declared.row.FieldRow.{FieldRow}
 use Rattle.reg_table.specs.declared.row.Row.{Row as TableRow}
 use Rattle.reg_table.specs.declared.row.RowPath.{RowPath}
+use Rattle.reg_table.specs.Members.{IsIndexOf, member_at, member_count, field_indexes}
 use Rattle.svd_values.specs.SchemaWords.{write_kind_text}
 
 -- an address, with at least eight digits
@@ -46,9 +48,14 @@ bits_text offset width = codes "[" ++ (decimal (offset + width - 1) ++ (codes ":
 unfoldable pub effect_text : FieldRow → List ℕ
 effect_text field = direction_text field.readable field.writable ++ (codes " " ++ (write_kind_text field.kind ++ codes "\n"))
 
--- the line of a field
-unfoldable pub field_line : FieldRow → List ℕ
-field_line field = codes "  " ++ (field.name ++ (codes " " ++ (bits_text field.offset field.width ++ (codes " " ++ effect_text field))))
+-- the line of a member of a field
+unfoldable pub member_line : FieldRow → Option ℕ → List ℕ
+member_line field index =
+    codes "  " ++ (field.name ++ (index_text index ++ (codes " " ++ (bits_text (member_at field index) field.width ++ (codes " " ++ effect_text field)))))
+
+-- the lines of a field: one for each member of an array, and one for any other
+abbrev pub field_lines : FieldRow → List ℕ
+field_lines field = flat_map (member_line field) (field_indexes field)
 
 -- the directions of a register, and its reset word
 unfoldable pub state_text : TableRow → List ℕ
@@ -61,16 +68,16 @@ register_line row =
 
 -- the lines of a row
 abbrev pub row_lines : TableRow → List ℕ
-row_lines row = register_line row ++ flat_map field_line row.fields
+row_lines row = register_line row ++ flat_map field_lines row.fields
 
 -- the listing
 abbrev pub listing : List TableRow → List ℕ
 listing table = flat_map row_lines table
 
--- the place of a field has a bit, and ends within so many
+-- the place of each member of a field has a bit, and ends within so many
 pub record FitsIn (bits : ℕ) (field : FieldRow) : Type 0 where
   pub some : 1 ≤ field.width
-  pub within : field.offset + field.width ≤ bits
+  pub within : (index : Option ℕ) → IsIndexOf (member_count field) index → member_at field index + field.width ≤ bits
 
 -- the reset word is one of the row's width, and its fields lie within it
 pub record IsListed (row : TableRow) : Type 0 where

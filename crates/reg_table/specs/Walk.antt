@@ -65,7 +65,7 @@ FitsHere start props step keys children = at step.kind
     at peripheral = start < 2 ^ 64
     at cluster = start < 2 ^ 64
     at register = (is_size (size_at props) ≡ true) × (start + bytes_of (width_of (size_at props)) ≤ 2 ^ 64) × IsDistinct same_step children
-    at field = is_field_within (bits_of (width_of (size_at props))) keys ≡ true
+    at field = (is_field_within (bits_of (width_of (size_at props))) keys ≡ true) × (1 ≤ unwrap_or (value_of stated_dim keys) 1)
     at value = 1 ≤ length step.name
     at set = ⊤
 

@@ -1,14 +1,19 @@
--- Worked register tables: the paths and addresses of the rows that the flat rows of a description with arrays give.
-use Rattle.std.specs.Prelude.{◌≡◌, ℕ, List, [], ◌∷◌, map, codes, Option, None, Some, refl}
+-- Worked register tables: the paths and addresses of the rows that the flat rows of a description with arrays give; and what a row says of an array of fields.
+use Rattle.std.specs.Prelude.{◌≡◌, ℕ, true, List, [], ◌∷◌, ◌++◌, map, codes, Option, None, Some, refl}
+use Rattle.std.specs.Fmt.{digits}
+use Rattle.std.specs.List.{flat_map}
 use Rattle.pac_base.specs.declared.path.Step.{Step as NamedStep}
-use Rattle.reg_table.specs.Calls.{parts}
-use Rattle.reg_table.specs.Masks.{is_masked, mask_of, number_of_bits}
+use Rattle.reg_table.specs.Calls.{calls_of, first_of_each, parts}
+use Rattle.reg_table.specs.Fields.{field_row}
+use Rattle.reg_table.specs.Listing.{bits_text, effect_text, field_lines, member_line}
+use Rattle.reg_table.specs.Masks.{is_by_one, is_masked, mask_of, number_of_bits}
 use Rattle.reg_table.specs.Registers.{array_paths, members_in_order, register_row, row_path, rows_of_member, table_of}
+use Rattle.reg_table.specs.declared.row.FieldRow.{FieldRow}
 use Rattle.reg_table.specs.declared.row.RowPath.{RowPath}
-use Rattle.svd_model.specs.Keys.{Key, base_address, at_offset, dim_count, dim_increment}
+use Rattle.svd_model.specs.Keys.{Key, base_address, at_offset, bit_width, dim_count, dim_increment, write_kind}
 use Rattle.svd_model.specs.Properties.{holding}
 use Rattle.svd_model.specs.Stating.{value_of, paths_of, ways_down, keys_down, properties_of, address_of}
-use Rattle.svd_model.specs.Steps.{Step, Kind, peripheral, cluster, register, same_step}
+use Rattle.svd_model.specs.Steps.{Step, Kind, peripheral, cluster, register, field, same_step}
 use Rattle.svd_rows.specs.Forest.{Forest, leaf, node}
 use Rattle.svd_rows.specs.LookUps.{inside, top_key, child_step, keys_of, children_of, ends_with}
 use Rattle.svd_rows.specs.Paths.{begins}
@@ -16,6 +21,7 @@ use Rattle.svd_rows.specs.RowEdits.{exchanged}
 use Rattle.svd_rows.specs.Rows.{Row, own, under, forest_rows, rows, is_element}
 use Rattle.rust_names.specs.Keywords.{is_keyword}
 use Rattle.rust_names.specs.PreludeNames.{is_prelude_name}
+use Rattle.svd_values.specs.declared.schema_word.WriteKind.TheVariants.{OneToClear}
 
 abbrev step : Kind → List ℕ → Step
 step kind name = record { kind = kind; name = name; number = 0 }
@@ -64,3 +70,41 @@ pub nested_arrays : places
     ∷ []
 unfolding table_of members_in_order array_paths rows_of_member row_path register_row parts mask_of number_of_bits is_masked value_of paths_of ways_down keys_down properties_of address_of holding same_step inside top_key child_step keys_of children_of ends_with begins exchanged own under forest_rows rows is_element is_keyword is_prelude_name
 nested_arrays = refl
+
+-- ---- arrays of fields
+
+-- the fields of each row
+abbrev fields_in : List (Row Step Key) → List (List FieldRow)
+fields_in all = map (λ row. row.fields) (table_of all)
+
+-- `LV[%s]`: four fields of two bits, eight bits apart, whose bits are cleared by writing 1
+abbrev levels : FieldRow
+levels = record {
+  name = codes "lv";
+  offset = 0;
+  width = 2;
+  dim = Some (record { count = 4; step = 8 });
+  readable = true;
+  writable = true;
+  kind = OneToClear;
+  is_calls = [];
+  set_calls = [];
+}
+
+-- an array of fields is one field of the row, with its members
+pub field_array :
+    fields_in (in_t (node (step register (codes "R")) (at_offset 0 ∷ []) (node (step field (codes "LV[%s]")) (dim_count 4 ∷ dim_increment 8 ∷ at_offset 0 ∷ bit_width 2 ∷ write_kind OneToClear ∷ []) leaf leaf) leaf))
+    ≡ (levels ∷ []) ∷ []
+unfolding table_of members_in_order array_paths rows_of_member row_path register_row field_row parts calls_of first_of_each mask_of number_of_bits is_masked value_of paths_of ways_down keys_down properties_of address_of holding same_step inside top_key child_step keys_of children_of ends_with begins exchanged own under forest_rows rows is_element is_keyword is_prelude_name
+field_array = refl
+
+-- each member has a line, and its bits are in the mask
+pub field_array_lines :
+    flat_map field_lines (levels ∷ [])
+    ≡ codes "  lv[0] [1:0] rw oneToClear\n" ++ (codes "  lv[1] [9:8] rw oneToClear\n" ++ (codes "  lv[2] [17:16] rw oneToClear\n" ++ codes "  lv[3] [25:24] rw oneToClear\n"))
+unfolding member_line bits_text effect_text digits
+field_array_lines = refl
+
+pub field_array_mask : mask_of is_by_one (levels ∷ []) ≡ 0x03030303
+unfolding mask_of number_of_bits is_masked
+field_array_mask = refl

@@ -1,10 +1,10 @@
 ghost use Rattle.std.specs.Prelude.{◌≡◌, ◌+◌, ◌≤◌, map, unwrap_or, IfOk};
 ghost use Rattle.std.specs.List.{AllByRecursion};
 ghost use Rattle.pac_base.specs.Widths.{bits_of};
-ghost use Rattle.reg_table.specs.Fields.{FieldFits, field_part, field_row};
+ghost use Rattle.reg_table.specs.Fields.{FieldFits, field_dim, field_part, field_row};
 
 use crate::calls::{Direction, calls_of_sets};
-use crate::row::{FieldRow, FieldRows};
+use crate::row::{FieldDim, FieldRow, FieldRows};
 use indexmap::IndexMap;
 use pac_base::{NoMemory, Seq, Width};
 use std::alloc::Global;
@@ -46,7 +46,7 @@ fn field_row(
         name: accessor(alloc, &key.name)?,
         offset,
         width,
-        dim: None,
+        dim: field_dim(field.dim.count, field.dim.step),
         readable: facts.readable,
         writable: facts.writable,
         kind: facts.kind,
@@ -64,4 +64,17 @@ fn bits_of_place(place: Place) -> (u32, u32)
     let offset = place.offset.unwrap_or(0);
     let width = place.width.unwrap_or(1);
     (offset as u32, width as u32)
+}
+
+/// The members, where `dim` is stated.
+fn field_dim(count: Option<u64>, increment: Option<u64>) -> Option<FieldDim>
+    ensures { result ≡ field_dim count increment }
+{
+    match count {
+        None => None,
+        Some(count) => Some(FieldDim {
+            count,
+            step: increment.unwrap_or(0),
+        }),
+    }
 }

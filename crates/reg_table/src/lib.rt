@@ -6,6 +6,7 @@ mod calls;
 mod fields;
 mod listing;
 mod masks;
+mod member;
 mod register;
 mod row;
 mod table_rows;

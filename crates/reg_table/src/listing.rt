@@ -1,18 +1,22 @@
-ghost use Rattle.std.specs.Prelude.{◌≡◌, ◌++◌, ◌+◌, ◌≤◌, All, OnOk};
+ghost use Rattle.std.specs.Prelude.{◌≡◌, ◌++◌, ◌+◌, ◌≤◌, ◌<◌, Some, unwrap_or, All, OnOk};
 ghost use Rattle.std.specs.List.{flat_map};
 ghost use Rattle.pac_base.specs.Widths.{bits_of};
 ghost use Rattle.pac_io.specs.Writing.{Writes, SinkCause};
-ghost use Rattle.reg_table.specs.Listing.{FitsIn, IsListed, address_text, bits_text, direction_text, effect_text, field_line, index_text, listing, path_text, register_line, row_lines, state_text, step_text, word_text};
+ghost use Rattle.reg_table.specs.Listing.{FitsIn, IsListed, address_text, bits_text, direction_text, effect_text, field_lines, index_text, listing, member_line, path_text, register_line, row_lines, state_text, step_text, word_text};
+ghost use Rattle.reg_table.specs.Members.{member_count};
+ghost use Rattle.reg_table.specs.Walk.{index_at};
 ghost use Rattle.svd_values.specs.SchemaWords.{write_kind_text};
 
+use crate::member::{member_bit, member_count, member_index};
 use crate::row::{FieldRow, Row, RowPath, Table};
 use pac_base::{NoMemory, Step, Width};
 use pac_io::{Page, Sink, SinkFault};
 use std::alloc::Global;
 use svd_values::WriteKind;
 
-/// Writes the lines of each row: that of the register, and those of its fields. Its condition is that each row's reset
-/// word fits its width, and that each field has a bit and lies within that width.
+/// Writes the lines of each row: that of the register, and those of its fields, one for each member of an array. Its
+/// condition is that each row's reset word fits its width, and that each field has a bit and each member of it lies
+/// within that width.
 pub fn list_text<S: Sink>(alloc: Global, table: &Table, sink: &mut S) -> Result<(), SinkFault>
     requires { All IsListed table.now }
     ensures growth { Writes result (S.written sink.old) (S.written sink.new) (listing table.now) }
@@ -114,7 +118,7 @@ fn push_word(page: &mut Page, width: Width, word: u64) -> Result<(), NoMemory>
 
 fn push_fields(page: &mut Page, fields: &[FieldRow], width: Width) -> Result<(), NoMemory>
     requires { All (FitsIn (bits_of width)) fields.now }
-    ensures { OnOk result (page.new ≡ page.old ++ flat_map field_line fields.now) }
+    ensures { OnOk result (page.new ≡ page.old ++ flat_map field_lines fields.now) }
 {
     for field in fields {
         push_field(page, field, width)?;
@@ -122,16 +126,28 @@ fn push_fields(page: &mut Page, fields: &[FieldRow], width: Width) -> Result<(),
     Ok(())
 }
 
-#[tactic(auto, unfolding(crate::specs::Listing::field_line))]
 fn push_field(page: &mut Page, field: &FieldRow, width: Width) -> Result<(), NoMemory>
     requires { FitsIn (bits_of width) field.now }
-    ensures { OnOk result (page.new ≡ page.old ++ field_line field.now) }
+    ensures { OnOk result (page.new ≡ page.old ++ field_lines field.now) }
+{
+    for number in 0..member_count(field) {
+        push_member(page, field, number, width)?;
+    }
+    Ok(())
+}
+
+#[tactic(auto, unfolding(crate::specs::Listing::member_line))]
+fn push_member(page: &mut Page, field: &FieldRow, number: u64, width: Width) -> Result<(), NoMemory>
+    requires member { number < unwrap_or (member_count field.now) 1 }
+    requires fits { FitsIn (bits_of width) field.now }
+    ensures { OnOk result (page.new ≡ page.old ++ member_line field.now (index_at (member_count field.now) number)) }
 {
     let _bits = width.bits();
     page.push(b"  ")?;
     page.push(field.name.bytes())?;
+    push_index(page, member_index(field, number))?;
     page.push(b" ")?;
-    push_bits(page, field.offset, field.width)?;
+    push_bits(page, member_bit(field, number), field.width)?;
     page.push(b" ")?;
     push_effect(page, field)
 }

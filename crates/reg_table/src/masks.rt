@@ -1,9 +1,9 @@
 ghost use Rattle.std.specs.Prelude.{◌≡◌, ◌&&◌, All, if◌then◌else◌};
-ghost use Rattle.bits_word.specs.Places.{mask};
 ghost use Rattle.reg_table.specs.Listing.{FitsIn};
-ghost use Rattle.reg_table.specs.Masks.{is_by_one, is_by_zero, mask_of};
+ghost use Rattle.reg_table.specs.Masks.{field_mask, is_by_one, is_by_zero, mask_of, places_of};
 
-use crate::row::FieldRow;
+use crate::member::member_bit;
+use crate::row::{FieldDim, FieldRow};
 use bits_word::Word;
 use svd_values::WriteKind;
 
@@ -34,12 +34,35 @@ pub(crate) fn zero_mask(fields: &[FieldRow]) -> u64
 /// The bits of a field, if it is writable and its kind is one of the mask's.
 fn bits_of_field(field: &FieldRow, is_of_kind: bool) -> u64
     requires { FitsIn 64 field.now }
-    ensures { result ≡ (if field.now.writable && is_of_kind then mask field.now.offset field.now.width else 0) }
+    ensures { result ≡ (if field.now.writable && is_of_kind then field_mask field.now else 0) }
 {
     if field.writable && is_of_kind {
-        <u64 as Word>::mask(field.offset, field.width)
+        field_mask(field)
     } else {
         0
+    }
+}
+
+/// The bits of a field: of each of its members, where it is an array.
+fn field_mask(field: &FieldRow) -> u64
+    requires { FitsIn 64 field.now }
+    ensures { result ≡ field_mask field.now }
+{
+    let mut mask = 0;
+    for number in 0..places_of(field.dim) {
+        mask |= <u64 as Word>::mask(member_bit(field, number), field.width);
+    }
+    mask
+}
+
+/// How many members lie at places of their own: with a step of 0 all lie at that of the first.
+fn places_of(dim: Option<FieldDim>) -> u64
+    ensures { result ≡ places_of dim }
+{
+    match dim {
+        None => 1,
+        Some(dim) if dim.step == 0 => dim.count.min(1),
+        Some(dim) => dim.count,
     }
 }
 

@@ -23,10 +23,10 @@ use Rattle.frag_sem.proofs.Words.{bit_reader_gets, reader_gets, start_is, writer
 use Rattle.register_form.specs.declared.register.Field.{Field}
 use Rattle.register_form.specs.declared.register.FieldArray.{FieldArray}
 use Rattle.register_form.specs.declared.register.Register.{Register}
-use Rattle.register_form.specs.Doings.{CallsFit, FieldIsSound, RegisterIsSound, bit_in, bit_tests, bit_writes, call_named, compared, field_count, field_got, field_put, lowest_bit, readable_named, said_by, value_by, value_or, writable_named}
+use Rattle.register_form.specs.Doings.{CallsFit, FieldIsSound, RegisterIsSound, bit_in, bit_tests, bit_writes, call_named, compared, field_count, field_got, field_put, field_writes, lowest_bit, readable_named, said_by, value_by, value_or, writable_named}
 use Rattle.register_form.specs.Fields.{is_bit, least_width, read_form, reader_of, spot_of, truth_call_of, width_by, write_form, writer_of}
 use Rattle.register_form.specs.Forms.{form_of, masks_of, readers_among, values_among, where_true, writers_among}
-use Rattle.register_form.specs.Laws.{FieldsGive, FieldsPut, LiesWithin, StartsAre}
+use Rattle.register_form.specs.Laws.{FieldsGive, FieldsPut, FieldsWrite, LiesWithin, StartsAre}
 use Rattle.register_form.proofs.Among.{Among, all_among, all_found, all_joined, among_filter, found_among, none_passes}
 use Rattle.register_form.proofs.OwnCalls.{read_calls, written_calls}
 
@@ -150,9 +150,9 @@ module _ (register : Register) (sound : RegisterIsSound register) where
       ap₂ (λ xs v. bits_given xs method v) calls (ap (λ o. as_bits (bits_of (least_width field.bits)) (taken word o (ones field.bits))) (spot_is field.offset field.array index) ∙ reader_gets (least_width field.bits) word (lowest_bit field index) field.bits (least_holds field.bits is_sound.bits.most))
       ∙ said_field field.tests method (get word (lowest_bit field index) field.bits)
 
-  write_one : (field : Field) → FieldIsSound register field → Among field register.fields → field.writable ≡ true → (index : Option ℕ) → lowest_bit field index + field.bits ≤ N → (method : List ℕ) (value word : ℕ) → word < 2 ^ N → (b : Bool) → is_bit field ≡ b
-      → form_written (form_of register) (writer_of field) index method value word (write_form b field) ≡ put word (lowest_bit field index) field.bits (value_by b field method value)
-  write_one field is_sound among writable index within method value word small true is =
+  write_one : (field : Field) → FieldIsSound register field → Among field register.fields → field.writable ≡ true → (index : Option ℕ) (method : List ℕ) (value word : ℕ) (b : Bool) → is_bit field ≡ b
+      → form_written (form_of register) (writer_of field) index method value word (write_form b field) ≡ written N word (lowest_bit field index) field.bits (value_by b field method value)
+  write_one field is_sound among writable index method value word true is =
       let one = bit_width field.bits is in
       let o = lowest_bit field index in
       let v = value_by true field method value in
@@ -161,17 +161,15 @@ module _ (register : Register) (sound : RegisterIsSound register) where
       ∙ written_calls (bit_writer field.kind field.marker) truth_calls truth_call_of field true is writable refl refl refl refl register.fields sound.markers among in
       ap₂ (λ xs o. written N word o 1 (bit_put (prelude.bit_writes field.kind ++ xs) method value)) calls (spot_is field.offset field.array index)
       ∙ (ap (written N word o 1) (put_bit field method value (subst (λ n. CallsFit n field.sets) one is_sound.sets))
-      ∙ (writer_puts N word o 1 v small (omega (arith, one, within)) ∙ ap (λ n. put word o n v) (sym one)))
-  write_one field is_sound among writable index within method value word small false is =
+      ∙ ap (λ n. written N word o n v) (sym one))
+  write_one field is_sound among writable index method value word false is =
       let T = field_writer field.marker (least_width field.bits) field.bits in
       let o = lowest_bit field index in
-      let v = value_by false field method value in
       let calls : numbers_on (writer_type (writer_of field)) (values_among register.fields) ≡ field.sets =
       ap (λ b. numbers_on (write_type field.marker (write_form b field)) (values_among register.fields)) is
       ∙ (written_calls T number_calls (λ call. call) field false is writable refl refl (sym (map-same field.sets)) refl register.fields sound.markers among ∙ map-same field.sets) in
       ap₂ (λ xs o. written N word o field.bits (bits_put xs method value)) calls (spot_is field.offset field.array index)
-      ∙ (ap (written N word o field.bits) (put_field field method value)
-      ∙ writer_puts N word o field.bits v small within)
+      ∙ ap (written N word o field.bits) (put_field field method value)
 
   -- a direction that a field has, the register has: so where it hasn't, no call stands
   calls_here : {X : Type 0} (f : Field → X) (allowed : Field → Bool) (whole : Bool) → ((field : Field) → Among field register.fields → allowed field ≡ true → whole ≡ true)
@@ -202,19 +200,28 @@ module _ (register : Register) (sound : RegisterIsSound register) where
           let there = among_filter (λ (field : Field). field.readable) register.fields field (found_among (λ (field : Field). bytes_eq name field.name) (filter (λ (field : Field). field.readable) register.fields) field e) in
           read_one field (all_among (FieldIsSound register) register.fields field sound.fields there.0) there.0 there.1 index method word (is_bit field) refl
 
-  puts : (name : List ℕ) (index : Option ℕ) (method : List ℕ) (value word : ℕ) → word < 2 ^ N → LiesWithin register name index
-      → field_written (form_of register) name index method value word ≡ field_put index method value word (writable_named name register)
+  writes : (name : List ℕ) (index : Option ℕ) (method : List ℕ) (value word : ℕ)
+      → field_written (form_of register) name index method value word ≡ field_writes N index method value word (writable_named name register)
   unfolding field_written
-  puts name index method value word small within =
+  writes name index method value word =
       ap (λ writers. writer_written (form_of register) index method value word (find (λ writer. bytes_eq name writer.name) writers)) writers_here
       ∙ (ap (writer_written (form_of register) index method value word) (found_map (λ writer. bytes_eq name writer.name) writer_of (filter (λ (field : Field). field.writable) register.fields))
-      ∙ by (writable_named name register) refl within)
+      ∙ by (writable_named name register) refl)
     where
-      by : (o : Option Field) → writable_named name register ≡ o → IfSome o (λ field. lowest_bit field index + field.bits ≤ N) → writer_written (form_of register) index method value word (option_map writer_of o) ≡ field_put index method value word o
-      by None e within = refl
-      by (Some field) e within =
+      by : (o : Option Field) → writable_named name register ≡ o → writer_written (form_of register) index method value word (option_map writer_of o) ≡ field_writes N index method value word o
+      by None e = refl
+      by (Some field) e =
           let there = among_filter (λ (field : Field). field.writable) register.fields field (found_among (λ (field : Field). bytes_eq name field.name) (filter (λ (field : Field). field.writable) register.fields) field e) in
-          write_one field (all_among (FieldIsSound register) register.fields field sound.fields there.0) there.0 there.1 index within method value word small (is_bit field) refl
+          write_one field (all_among (FieldIsSound register) register.fields field sound.fields there.0) there.0 there.1 index method value word (is_bit field) refl
+
+  -- within the word the formula puts
+  puts : (name : List ℕ) (index : Option ℕ) (method : List ℕ) (value word : ℕ) → word < 2 ^ N → LiesWithin register name index
+      → field_written (form_of register) name index method value word ≡ field_put index method value word (writable_named name register)
+  puts name index method value word small within = writes name index method value word ∙ by (writable_named name register) within
+    where
+      by : (o : Option Field) → IfSome o (λ field. lowest_bit field index + field.bits ≤ N) → field_writes N index method value word o ≡ field_put index method value word o
+      by None within = refl
+      by (Some field) within = writer_puts N word (lowest_bit field index) field.bits (value_by (is_bit field) field method value) small within
 
   -- ---- the start word
 
@@ -238,6 +245,9 @@ module _ (register : Register) (sound : RegisterIsSound register) where
 
 pub fields_give : FieldsGive
 fields_give register sound = given register sound
+
+pub fields_write : FieldsWrite
+fields_write register sound = writes register sound
 
 pub fields_put : FieldsPut
 fields_put register sound = puts register sound

@@ -13,6 +13,7 @@ use Rattle.frag_tree.specs.declared.register.NumberCall.{NumberCall}
 use Rattle.frag_sem.specs.CallPlaces.{admits}
 use Rattle.frag_sem.specs.CrateTyping.{is_free}
 use Rattle.frag_sem.specs.Modules.{are_distinct_names}
+use Rattle.frag_sem.specs.PreludeWords.{written}
 use Rattle.register_form.specs.declared.register.Field.{Field}
 use Rattle.register_form.specs.declared.register.FieldArray.{FieldArray}
 use Rattle.register_form.specs.declared.register.Register.{Register}
@@ -94,6 +95,11 @@ value_by false field method value = if bytes_eq method (codes "bits") then value
 abbrev pub field_put : Option ℕ → List ℕ → ℕ → ℕ → Option Field → ℕ
 field_put index method value word None = word
 field_put index method value word (Some field) = put word (lowest_bit field index) field.bits (value_by (is_bit field) field method value)
+
+-- the prelude's formula of writers at that place, wherever it lies
+abbrev pub field_writes : ℕ → Option ℕ → List ℕ → ℕ → ℕ → Option Field → ℕ
+field_writes bits index method value word None = word
+field_writes bits index method value word (Some field) = written bits word (lowest_bit field index) field.bits (value_by (is_bit field) field method value)
 
 -- the field of this name that can be written
 abbrev pub writable_named : List ℕ → Register → Option Field

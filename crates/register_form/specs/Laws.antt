@@ -10,7 +10,7 @@ use Rattle.frag_sem.specs.PreludeWords.{same_truth}
 use Rattle.frag_sem.specs.ProxyTypes.{readers_of, same_type, same_width, types_of, values_type, writers_of}
 use Rattle.frag_sem.specs.TextMeaning.{field_given, field_written, started}
 use Rattle.register_form.specs.declared.register.Register.{Register}
-use Rattle.register_form.specs.Doings.{RegisterIsNamed, RegisterIsSound, field_got, field_put, lowest_bit, readable_named, writable_named}
+use Rattle.register_form.specs.Doings.{RegisterIsNamed, RegisterIsSound, field_got, field_put, field_writes, lowest_bit, readable_named, writable_named}
 use Rattle.register_form.specs.Forms.{form_of}
 
 -- Each method of each field that can be read gives what stands at the place of the field, or of its member: the number, the truth, or whether it is what the call stands for.
@@ -19,6 +19,13 @@ FieldsGive =
     (register : Register) → RegisterIsSound register
     → (name : List ℕ) (index : Option ℕ) (method : List ℕ) (word : ℕ)
     → field_given (form_of register) name index method word ≡ field_got index method word (readable_named name register)
+
+-- Each method of each field that can be written writes its value by the prelude's formula, at the place of the field, or of its member, wherever that lies.
+abbrev pub FieldsWrite : Type 0
+FieldsWrite =
+    (register : Register) → RegisterIsSound register
+    → (name : List ℕ) (index : Option ℕ) (method : List ℕ) (value word : ℕ)
+    → field_written (form_of register) name index method value word ≡ field_writes (bits_of register.word) index method value word (writable_named name register)
 
 -- the place of the field that can be written, or of its member, lies within the word: so it does where the index fits
 abbrev pub LiesWithin : Register → List ℕ → Option ℕ → Type 0

@@ -1,8 +1,9 @@
-ghost use Rattle.register_form.specs.Laws.{FieldsGive, FieldsPut, RulesHold, StartsAre};
+ghost use Rattle.register_form.specs.Laws.{FieldsGive, FieldsPut, FieldsWrite, RulesHold, StartsAre};
 
 /// The module of a register does with words what the places of its fields and its masks say.
 pub fn words_law()
     ensures given { FieldsGive }
+    ensures write { FieldsWrite }
     ensures put { FieldsPut }
     ensures start { StartsAre }
 {}

@@ -2,15 +2,15 @@
 -- faults, by their kinds and then in document order. The sizes are those of CMSIS-SVD 1.3; that an address has
 -- 64 bits and is a multiple of its register's width, and that siblings may not share one accessor name, are this
 -- project's own rules.
-use Rattle.std.specs.Prelude.{ℕ, ◌+◌, ◌%◌, ◌^◌, Bool, true, false, ◌&&◌, not, nat_le, nat_lt, nat_eq, List, [], ◌∷◌, ◌++◌, map, filter, reverse, unwrap_or, if◌then◌else◌}
-use Rattle.std.specs.List.{list_any}
+use Rattle.std.specs.Prelude.{ℕ, ◌+◌, ◌*◌, ◌%◌, ◌^◌, Bool, true, false, ◌&&◌, not, nat_le, nat_lt, nat_eq, List, [], ◌∷◌, ◌++◌, map, filter, reverse, Option, unwrap_or, if◌then◌else◌}
+use Rattle.std.specs.List.{list_all, list_any}
 use Rattle.std.specs.Str.{bytes_eq}
 use Rattle.pac_base.specs.Widths.{bits_of}
 use Rattle.pac_base.specs.declared.width.Width.{Width}
 use Rattle.pac_base.specs.declared.width.Width.TheVariants.{W8, W16, W32, W64}
 use Rattle.svd_model.specs.Keys.{Key}
 use Rattle.svd_model.specs.Properties.{size_at}
-use Rattle.svd_model.specs.Stating.{value_of, stated_offset, stated_width, keys_at, keys_down, paths_of, paths_of_kind, properties_of, members_of, address_of}
+use Rattle.svd_model.specs.Stating.{value_of, stated_dim, stated_increment, stated_offset, stated_width, indexes_of, keys_at, keys_down, paths_of, paths_of_kind, properties_of, members_of, address_of}
 use Rattle.svd_model.specs.Steps.{Step, Kind, peripheral, cluster, register, field, set, value, same_step}
 use Rattle.svd_rows.specs.Paths.{exactly, fits}
 use Rattle.svd_rows.specs.Rows.{Row}
@@ -79,9 +79,15 @@ some_uneven bytes down = list_any (λ member. not (nat_eq (address_of down membe
 
 -- ---- fields
 
--- a field with these keys lies within so many bits, and has one at least
+-- where a member of a field with these keys begins, in bits: the field's offset, and the index times the step
+abbrev pub bit_of : List Key → Option ℕ → ℕ
+bit_of keys index =
+    unwrap_or (value_of stated_offset keys) 0 + unwrap_or index 0 * unwrap_or (value_of stated_increment keys) 0
+
+-- each member of a field with these keys lies within so many bits, and has one at least
 abbrev pub is_field_within : ℕ → List Key → Bool
-is_field_within bits keys = nat_le 1 width && nat_le (unwrap_or (value_of stated_offset keys) 0 + width) bits
+is_field_within bits keys =
+    nat_le 1 width && list_all (λ index. nat_le (bit_of keys index + width) bits) (indexes_of (value_of stated_dim keys))
   where
     width : ℕ
     width = unwrap_or (value_of stated_width keys) 1
@@ -124,7 +130,7 @@ unfoldable pub uneven : List (Row Step Key) → List (List Step)
 uneven all =
     filter (λ path. some_uneven (bytes_of (width_down (keys_down all path))) (keys_down all path)) (paths_of_kind register all)
 
--- fields that end past their register's width, or have no bit
+-- fields of which a member ends past the register's width, or that have no bit
 unfoldable pub fields_past : List (Row Step Key) → List (List Step)
 fields_past all =
     filter (λ path. not (is_field_within (bits_of (width_down (keys_down all path))) (keys_at all path))) (paths_of_kind field all)

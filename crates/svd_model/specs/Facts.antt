@@ -110,7 +110,7 @@ abbrev pub IsArrayDim : Key → Type 0
 IsArrayDim (dim_count n) = (1 ≤ n) × (n ≤ 65536)
 IsArrayDim _ = ⊤
 
--- an element that states `dim` is an array of registers or clusters, and no other name holds the mark `%s`
+-- an element that states `dim` is an array of clusters, registers or fields, and no other name holds the mark `%s`
 abbrev pub IsArrayOrPlain : Step → List Key → Type 0
 IsArrayOrPlain step keys = at step.kind
   where
@@ -124,7 +124,7 @@ IsArrayOrPlain step keys = at step.kind
     at peripheral = plain
     at cluster = marked
     at register = marked
-    at field = plain × IsPlaced keys
+    at field = marked × IsPlaced keys
     at set = ⊤
     at value = IsValueName step.name
 
@@ -136,7 +136,8 @@ pub record IsUnfoldedElement (step : Step) (keys : List Key) : Type 0 where
 
 -- ---- how much a description is, where each list is unfolded: this project's own limits
 
--- how many registers, fields and enumerated values there may be with every member of an array
+-- how many registers, fields and enumerated values there may be with every member of an array: the fields of each
+-- member of a register, and the values of each member of a field
 abbrev pub register_limit : ℕ
 register_limit = 262144
 

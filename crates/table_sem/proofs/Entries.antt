@@ -18,7 +18,7 @@ use Rattle.svd_rows.specs.Forest.{Forest, leaf, node}
 use Rattle.svd_rows.specs.Rows.{rows}
 use Rattle.table_sem.specs.Entries.{HasEntry, LeadsOver}
 use Rattle.table_sem.specs.Laws.{RowsHaveEntries}
-use Rattle.table_sem.specs.Members.{IsIndexOf}
+use Rattle.reg_table.specs.Members.{IsIndexOf}
 use Rattle.table_sem.specs.Names.{Named, accessor_of, is_named}
 use Rattle.table_sem.specs.SurfaceWalk.{calls_here, entries_in, entries_of_peripherals, name_inside, own_entry, peripheral_name}
 use Rattle.table_sem.specs.TableSurface.{entry_of, row_calls, table_surface}

@@ -11,7 +11,7 @@ use Rattle.pac_base.specs.Widths.{bits_of}
 use Rattle.frag_sem.specs.PreludeWords.{complement, ones, start_word, taken, written}
 use Rattle.frag_sem.proofs.Words.{reads_written, some_power, start_plain, writer_puts, written_small}
 use Rattle.table_sem.specs.Laws.{MemberIsPut, MemberReadsBack, WrittenIsPut}
-use Rattle.table_sem.specs.Members.{member_at}
+use Rattle.reg_table.specs.Members.{member_at}
 
 -- a value that is put within a word stays in the word
 pub put_small : (N w o n v : ℕ) → w < 2 ^ N → o + n ≤ N → put w o n v < 2 ^ N

@@ -2,22 +2,24 @@
 use Rattle.std.proofs.Common.{ℕ, zero, suc, ◌≡◌, ◌+◌, ◌-◌, ◌*◌, ◌/◌, ◌^◌, ◌<◌, ◌≤◌, Bool, true, false, cond, ◌&&◌, ◌||◌, List, [], ◌∷◌, map, filter, filter_map, Option, Some, None, IfSome, refl, sym, ap, ap₂, subst, ◌∙◌, arith, lit≤, zero-add}
 use Rattle.std.specs.Prelude.{nat_lt, unwrap_or}
 use Rattle.std.specs.List.{AllByRecursion, cons_option}
-use Rattle.std.proofs.lemmas.Bool.{ltb-true}
+use Rattle.std.proofs.lemmas.Bool.{false≢true, ltb-true}
 use Rattle.std.proofs.lemmas.Bool.Decides.{nat_tests}
 use Rattle.pac_base.specs.declared.width.Width.{Width}
 use Rattle.pac_base.specs.declared.width.Width.TheVariants.{W16, W32, W64, W8}
 use Rattle.pac_base.specs.Widths.{bits_of}
+use Rattle.frag_sem.specs.CallPlaces.{admits}
 use Rattle.frag_sem.proofs.Lists.{both_true}
 use Rattle.reg_table.specs.Calls.{call_of, calls_of, first_of_each, plain_set, serves_reading, serves_writing, set_calls_of}
 use Rattle.reg_table.specs.Fields.{FieldFits as PlaceFits, field_part, field_row}
 use Rattle.reg_table.specs.Listing.{IsListed}
-use Rattle.reg_table.specs.Masks.{is_by_one, is_by_zero, is_covered, is_masked, mask_of, number_of_bits}
+use Rattle.reg_table.specs.Masks.{is_by_one, is_by_zero, is_covered, is_masked, is_of_field, mask_of, number_of_bits}
 use Rattle.reg_table.specs.Registers.{cut_reset, register_row}
 use Rattle.reg_table.specs.declared.row.Call.{Call}
 use Rattle.reg_table.specs.declared.row.FieldRow.{FieldRow}
 use Rattle.reg_table.specs.declared.row.Row.{Row as TableRow}
 use Rattle.reg_table.specs.declared.row.RowPath.{RowPath}
-use Rattle.reg_table.proofs.Gathering.{least_is, register-listed, row-register, rows_of_fields}
+use Rattle.reg_table.proofs.FieldMembers.{no-index}
+use Rattle.reg_table.proofs.Gathering.{each-within, least_is, register-listed, row-register, rows_of_fields}
 use Rattle.reg_table.proofs.Parts.{row-field}
 use Rattle.reg_table.proofs.Walks.{RegisterFits}
 use Rattle.svd_model.specs.declared.device.Field.{Field}
@@ -32,7 +34,7 @@ use Rattle.svd_values.specs.AccessorNames.{is_call_name, variant_call_name}
 use Rattle.svd_values.specs.declared.schema_word.Usage.{Usage}
 use Rattle.svd_values.specs.declared.schema_word.WriteKind.{WriteKind}
 use Rattle.table_sem.specs.Laws.{TypeIsLeast}
-use Rattle.table_sem.specs.Members.{IsIndexOf}
+use Rattle.reg_table.specs.Members.{IsIndexOf, member_at, member_count}
 use Rattle.table_sem.specs.RowFacts.{FieldFits, RowFits}
 use Rattle.table_sem.proofs.StartNumbers.{number_small}
 
@@ -112,14 +114,14 @@ no-bits p none zero = refl
 no-bits p none (suc n) = ap₂ (λ b r. cond b (2 ^ n) 0 + r) (none n) (no-bits p none n)
 
 abbrev IsWithin : ℕ → FieldRow → Type 0
-IsWithin bits field = field.offset + field.width ≤ bits
+IsWithin bits field = (index : Option ℕ) → IsIndexOf (member_count field) index → member_at field index + field.width ≤ bits
 
 unmasked : (of_kind : WriteKind → Bool) (bits : ℕ) (fields : List FieldRow) → AllByRecursion (IsWithin bits) fields → (i : ℕ) → bits ≤ i → is_masked of_kind fields i ≡ false
 unfolding is_masked
 unmasked of_kind bits [] all i h = refl
 unmasked of_kind bits (field ∷ fields) all i h =
-    let out : is_covered field.offset field.width i ≡ false = outside field.offset field.width i (omega (arith, all.0, h)) in
-    ap₂ (λ b c. b || c) (by (field.writable && of_kind field.kind) (is_covered field.offset field.width i) out) (unmasked of_kind bits fields all.1 i h)
+    let out : is_of_field field i ≡ false = no-index (λ index. is_covered (member_at field index) field.width i) (member_count field) (λ index is. let end = all.0 index is in outside (member_at field index) field.width i (omega (arith, end, h))) in
+    ap₂ (λ b c. b || c) (by (field.writable && of_kind field.kind) (is_of_field field i) out) (unmasked of_kind bits fields all.1 i h)
   where
     outside : (o w i : ℕ) → o + w ≤ i → is_covered o w i ≡ false
     outside o w i h = grind (arith, nat_tests)
@@ -144,7 +146,7 @@ IsUnwritten field = field.writable ≡ false
 unwritten : (of_kind : WriteKind → Bool) (fields : List FieldRow) → AllByRecursion IsUnwritten fields → (i : ℕ) → is_masked of_kind fields i ≡ false
 unfolding is_masked
 unwritten of_kind [] all i = refl
-unwritten of_kind (field ∷ fields) all i = ap₂ (λ b c. ((b && of_kind field.kind) && is_covered field.offset field.width i) || c) all.0 (unwritten of_kind fields all.1 i)
+unwritten of_kind (field ∷ fields) all i = ap₂ (λ b c. ((b && of_kind field.kind) && is_of_field field i) || c) all.0 (unwritten of_kind fields all.1 i)
 
 -- where no field is written, nothing is masked
 no-mask : (of_kind : WriteKind → Bool) (fields : List FieldRow) → AllByRecursion IsUnwritten fields → mask_of of_kind fields ≡ 0
@@ -157,31 +159,42 @@ no-mask of_kind fields all = no-bits (is_masked of_kind fields) (unwritten of_ki
 field-fits : (row : TableRow) (kind : Option WriteKind) (entry : Sibling × Field) → PlaceFits (bits_of row.width) entry → FieldFits row (field_row row.readable row.writable kind (field_part entry))
 field-fits row kind entry fits = subst (FieldFits row) (sym (row-field entry.0 entry.1 row.readable row.writable kind fits.distinct)) (record {
   some = fits.some;
-  within = within;
+  within = each-within (bits_of row.width) entry.1 fits.within;
   is_calls = sets-fit serves_reading is_call_name (unwrap_or entry.1.place.width 1) (map plain_set entry.1.values.items);
   set_calls = sets-fit serves_writing variant_call_name (unwrap_or entry.1.place.width 1) (map plain_set entry.1.values.items);
   readable = λ e. (both_true row.readable (passes_at can_read entry.1.access) e).0;
   writable = λ e. (both_true row.writable (passes_at can_write entry.1.access) e).0;
 })
-  where
-    within : (index : Option ℕ) → IsIndexOf None index → unwrap_or entry.1.place.offset 0 + 0 + unwrap_or entry.1.place.width 1 ≤ bits_of row.width
-    within None admitted = omega (arith, fits.within)
-    within (Some index) admitted = absurd admitted
 
 fields-fit : (row : TableRow) (kind : Option WriteKind) (entries : List (Sibling × Field)) → AllByRecursion (PlaceFits (bits_of row.width)) entries → AllByRecursion (FieldFits row) (map (λ entry. field_row row.readable row.writable kind (field_part entry)) entries)
 fields-fit row kind [] all = tt
 fields-fit row kind (entry ∷ entries) all = (field-fits row kind entry all.0, fields-fit row kind entries all.1)
 
--- each field by itself lies within the word
+-- each member of each field lies within the word
 fields-within : (row : TableRow) (kind : Option WriteKind) (entries : List (Sibling × Field)) → AllByRecursion (PlaceFits (bits_of row.width)) entries → AllByRecursion (IsWithin (bits_of row.width)) (map (λ entry. field_row row.readable row.writable kind (field_part entry)) entries)
 fields-within row kind [] all = tt
 fields-within row kind (entry ∷ entries) all =
-    (subst (IsWithin (bits_of row.width)) (sym (row-field entry.0 entry.1 row.readable row.writable kind all.0.distinct)) all.0.within, fields-within row kind entries all.1)
+    (subst (IsWithin (bits_of row.width)) (sym (row-field entry.0 entry.1 row.readable row.writable kind all.0.distinct)) (each-within (bits_of row.width) entry.1 all.0.within), fields-within row kind entries all.1)
 
 fields-unwritten : (readable : Bool) (kind : Option WriteKind) (entries : List (Sibling × Field)) → AllByRecursion IsUnwritten (map (λ entry. field_row readable false kind (field_part entry)) entries)
 unfolding field_row
 fields-unwritten readable kind [] = tt
 fields-unwritten readable kind (entry ∷ entries) = (refl, fields-unwritten readable kind entries)
+
+-- an index that is admitted is one of a member
+pub index-admitted : (count index : Option ℕ) → admits count index ≡ true → IsIndexOf count index
+index-admitted None None h = tt
+index-admitted None (Some index) h = absurd (false≢true h)
+index-admitted (Some count) None h = absurd (false≢true h)
+index-admitted (Some count) (Some index) h = ltb-true index count h
+
+-- a field that has a member isn't wider than its register
+pub member-narrow : (row : TableRow) (field : FieldRow) → FieldFits row field → 1 ≤ unwrap_or (member_count field) 1 → field.width ≤ bits_of row.width
+member-narrow row field fits some = by (member_count field) some fits.within
+  where
+    by : (count : Option ℕ) → 1 ≤ unwrap_or count 1 → ((index : Option ℕ) → IsIndexOf count index → member_at field index + field.width ≤ bits_of row.width) → field.width ≤ bits_of row.width
+    by None some each = let one = each None tt in omega (arith, one)
+    by (Some n) some each = let one = each (Some 0) (omega (arith, some)) in omega (arith, one)
 
 -- ---- registers
 

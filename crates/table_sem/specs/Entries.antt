@@ -3,7 +3,7 @@ use Rattle.std.specs.Prelude.{ℕ, ◌≡◌, List, [], ◌∷◌, ◌++◌, Som
 use Rattle.frag_sem.specs.Surfaces.{Entry, RegisterCalls, Step as Accessor, Surface}
 use Rattle.pac_base.specs.declared.path.Step.{Step as NamedStep}
 use Rattle.reg_table.specs.declared.row.Row.{Row}
-use Rattle.table_sem.specs.Members.{IsIndexOf}
+use Rattle.reg_table.specs.Members.{IsIndexOf}
 use Rattle.table_sem.specs.TableSurface.{row_calls}
 
 -- the steps are accessors of these names, each with an index just where there is a count, and below it

@@ -20,7 +20,8 @@ use Rattle.svd_model.specs.Steps.{Step}
 use Rattle.svd_model.specs.Trees.{device_rows, device_tree}
 use Rattle.svd_rows.specs.Rows.{Row}
 use Rattle.table_sem.specs.Entries.{HasEntry, HasRows}
-use Rattle.table_sem.specs.Members.{IsIndexOf, member_at, member_count, member_get, member_put}
+use Rattle.reg_table.specs.Members.{IsIndexOf, member_at, member_count}
+use Rattle.table_sem.specs.Members.{member_get, member_put}
 use Rattle.table_sem.specs.Names.{Named, names_of}
 use Rattle.table_sem.specs.RowActs.{row_acts}
 use Rattle.table_sem.specs.RowFacts.{FieldFits, RowFits}

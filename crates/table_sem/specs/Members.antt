@@ -1,28 +1,8 @@
--- The members of a field, and where they lie in the register's word, in bits (CMSIS-SVD 1.3: member k of an array of fields begins k times `dimIncrement` bits behind the first).
-use Rattle.std.specs.Prelude.{ℕ, ◌+◌, ◌*◌, ◌%◌, ◌^◌, ◌<◌, Option, Some, None, option_map, unwrap_or, ⊤}
+-- What stands in a member of a field, and what it is to put a number there.
+use Rattle.std.specs.Prelude.{ℕ, ◌%◌, ◌^◌, Option}
 use Rattle.bits_word.specs.Places.{get, put}
-use Rattle.reg_table.specs.declared.row.FieldDim.{FieldDim}
 use Rattle.reg_table.specs.declared.row.FieldRow.{FieldRow}
-
--- how many members a field has; none where it is no array, and takes no index
-abbrev pub member_count : FieldRow → Option ℕ
-member_count field = option_map (λ dim. dim.count) field.dim
-
--- an index stands just where there is a count, and is below it
-abbrev pub IsIndexOf : Option ℕ → Option ℕ → Type 0
-IsIndexOf None None = ⊤
-IsIndexOf None (Some index) = ⊥
-IsIndexOf (Some count) None = ⊥
-IsIndexOf (Some count) (Some index) = index < count
-
--- how many bits a member begins behind the first
-abbrev pub member_behind : Option FieldDim → Option ℕ → ℕ
-member_behind None index = 0
-member_behind (Some dim) index = unwrap_or index 0 * dim.step
-
--- the lowest bit of a member
-abbrev pub member_at : FieldRow → Option ℕ → ℕ
-member_at field index = field.offset + member_behind field.dim index
+use Rattle.reg_table.specs.Members.{member_at}
 
 -- the number that stands in a member
 abbrev pub member_get : FieldRow → Option ℕ → ℕ → ℕ

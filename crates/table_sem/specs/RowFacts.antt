@@ -4,7 +4,7 @@ use Rattle.std.specs.List.{AllByRecursion}
 use Rattle.pac_base.specs.Widths.{bits_of}
 use Rattle.reg_table.specs.declared.row.FieldRow.{FieldRow}
 use Rattle.reg_table.specs.declared.row.Row.{Row}
-use Rattle.table_sem.specs.Members.{IsIndexOf, member_at, member_count}
+use Rattle.reg_table.specs.Members.{IsIndexOf, member_at, member_count}
 
 -- A field of a register of so many bits has a bit, and each of its members ends within the register; its enumerated values are numbers of its bits; and it is read or written only where the register is.
 pub record FieldFits (row : Row) (field : FieldRow) : Type 0 where

@@ -11,7 +11,7 @@ use Rattle.svd_model.specs.Steps.{Step, register}
 use Rattle.svd_model.specs.Visits.{Visit}
 use Rattle.svd_rows.specs.LookUps.{ends_with}
 use Rattle.svd_rows.specs.Rows.{Row}
-use Rattle.table_sem.specs.Members.{member_count}
+use Rattle.reg_table.specs.Members.{member_count}
 use Rattle.table_sem.specs.Methods.{ReadMethod, WriteMethod, read_methods, write_methods}
 use Rattle.table_sem.specs.Names.{Named, named, named_visits}
 use Rattle.table_sem.specs.RowActs.{readable_fields, writable_fields}

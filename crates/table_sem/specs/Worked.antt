@@ -36,7 +36,7 @@ use Rattle.table_sem.specs.RowActs.{row_acts}
 use Rattle.table_sem.specs.StartNumber.{start_number}
 use Rattle.table_sem.specs.TableMeaning.{row_at, table_presets, table_run}
 use Rattle.table_sem.specs.TableSurface.{row_calls, table_surface}
-use Rattle.table_sem.specs.WorkedTables.{both_at_0, channels, cleared_by_zero, cut, levels, long, nested, one_way, plain, status_rows, surface_of, with_mode}
+use Rattle.table_sem.specs.WorkedTables.{both_at_0, channels, cleared_by_zero, cut, long, nested, one_way, plain, status_rows, with_levels, with_mode}
 
 -- what the events of a script against a table are computed with
 run_words : Unit {0}
@@ -141,17 +141,17 @@ preset_once = refl
 
 -- `T.sr().write(|w| w.lv(3).bits(2));`: the two bits at 0 + 3 · 8
 pub member_is_written :
-    table_run (levels ∷ []) (script (statement.Write status (link.Field (call_at (codes "lv") 3) (codes "bits") (Some (record { negations = 0; atom = atom.Number 2 })) ∷ []))) []
+    run with_levels (script (statement.Write status (link.Field (call_at (codes "lv") 3) (codes "bits") (Some (record { negations = 0; atom = atom.Number 2 })) ∷ []))) []
     ≡ event.Write 0x40000000 W32 0x02000000 ∷ []
-unfolding run_words
+unfolding run_words table_words
 member_is_written = refl
 
 -- `T.sr().modify(|r, w| w.lv(0).bits(r.lv(2).bits()));`
 pub member_is_read :
-    table_run (levels ∷ []) (script (statement.Modify status true (
+    run with_levels (script (statement.Modify status true (
     link.Field (call_at (codes "lv") 0) (codes "bits") (Some (record { negations = 0; atom = atom.Source (source.Field (codes "r") (call_at (codes "lv") 2) (codes "bits")) })) ∷ []))) (0x03030100 ∷ [])
     ≡ event.Read 0x40000000 W32 0x03030100 ∷ event.Write 0x40000000 W32 0x03030103 ∷ []
-unfolding run_words
+unfolding run_words table_words
 member_is_read = refl
 
 -- ---- surfaces
@@ -197,8 +197,8 @@ with_two index = link.Field (record { name = codes "lv"; index = index }) (codes
 
 -- `w.lv(3)` is the last of four members; `w.lv(4)` is none, and `w.lv()` has no index.
 pub index_of_a_field :
-    (script_fault (surface_of (codes "sr") levels) (script (statement.Write status (with_two (Some 3)))) ≡ None)
-    × ((script_fault (surface_of (codes "sr") levels) (script (statement.Write status (with_two (Some 4)))) ≡ first_line index_range)
-    × (script_fault (surface_of (codes "sr") levels) (script (statement.Write status (with_two None))) ≡ first_line wrong_type))
-unfolding fault_words
+    (fault with_levels (script (statement.Write status (with_two (Some 3)))) ≡ None)
+    × ((fault with_levels (script (statement.Write status (with_two (Some 4)))) ≡ first_line index_range)
+    × (fault with_levels (script (statement.Write status (with_two None))) ≡ first_line wrong_type))
+unfolding fault_words table_words
 index_of_a_field = (refl, (refl, refl))

@@ -1,18 +1,11 @@
--- Small descriptions as flat rows, and small tables of registers, for worked rows.
-use Rattle.std.specs.Prelude.{ℕ, true, List, [], ◌∷◌, codes, None, Some}
-use Rattle.frag_sem.specs.Surfaces.{Surface}
-use Rattle.pac_base.specs.declared.width.Width.TheVariants.{W32}
-use Rattle.reg_table.specs.declared.row.FieldRow.{FieldRow}
-use Rattle.reg_table.specs.declared.row.Row.{Row as TableRow}
+-- Small descriptions as flat rows, for worked rows.
+use Rattle.std.specs.Prelude.{ℕ, List, [], ◌∷◌, codes}
 use Rattle.svd_model.specs.Keys.{Key, at_offset, base_address, bit_width, dim_count, dim_increment, enumerated_value, register_access, register_size, reset_mask, reset_value, write_kind}
 use Rattle.svd_model.specs.Steps.{Step, Kind, cluster, field, peripheral, register, set, value}
 use Rattle.svd_rows.specs.Forest.{Forest, leaf, node}
 use Rattle.svd_rows.specs.Rows.{Row, rows}
 use Rattle.svd_values.specs.declared.schema_word.Access.TheVariants.{ReadOnly, WriteOnly}
-use Rattle.svd_values.specs.declared.schema_word.WriteKind.TheVariants.{Modify, OneToClear, ZeroToClear}
-use Rattle.table_sem.specs.TableSurface.{entry_of, row_calls}
-
--- ---- descriptions
+use Rattle.svd_values.specs.declared.schema_word.WriteKind.TheVariants.{OneToClear, ZeroToClear}
 
 abbrev step : Kind → List ℕ → Step
 step kind name = record { kind = kind; name = name; number = 0 }
@@ -71,38 +64,6 @@ with_mode = in_t (with_register (codes "SR") (at_offset 0 ∷ reset_value 0xFF �
     node (step field (codes "MODE")) (at_offset 4 ∷ bit_width 3 ∷ [])
     (node (step set []) [] (node (step value (codes "Fast")) (enumerated_value 3 ∷ []) leaf leaf) leaf) leaf) leaf)
 
--- ---- tables
-
--- a row of T with these fields, of 32 bits, without masks
-abbrev pub row_of : List ℕ → List FieldRow → TableRow
-row_of name fields = record {
-  path = record { slot = codes "T"; steps = record { name = name; index = None } ∷ [] };
-  address = 0x40000000;
-  width = W32;
-  readable = true;
-  writable = true;
-  reset = 0;
-  one = 0;
-  zero = 0;
-  fields = fields;
-}
-
--- `lv`: four members of two bits, eight bits apart
-abbrev pub levels : TableRow
-levels = row_of (codes "sr") (record {
-  name = codes "lv";
-  offset = 0;
-  width = 2;
-  dim = Some (record { count = 4; step = 8 });
-  readable = true;
-  writable = true;
-  kind = Modify;
-  is_calls = [];
-  set_calls = [];
-} ∷ [])
-
--- a surface of T alone, with this row
-abbrev pub surface_of : List ℕ → TableRow → Surface
-surface_of name row =
-    entry_of (record { slot = codes "T"; accessors = [] }) None ∷
-    entry_of (record { slot = codes "T"; accessors = record { name = name; count = None } ∷ [] }) (Some (row_calls row)) ∷ []
+-- `SR` with `LV[%s]`: four fields of two bits, eight bits apart
+abbrev pub with_levels : List (Row Step Key)
+with_levels = in_t (with_register (codes "SR") (at_offset 0 ∷ []) (node (step field (codes "LV[%s]")) (dim_count 4 ∷ dim_increment 8 ∷ at_offset 0 ∷ bit_width 2 ∷ []) leaf leaf) leaf)

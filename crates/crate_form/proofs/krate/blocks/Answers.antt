@@ -2,7 +2,7 @@
 use Rattle.std.proofs.Common.{List, ◌++◌, ◌∷◌, [], map, sym, ap, ap₂, ◌∙◌, subst, append_assoc, append-nil}
 use Rattle.std.specs.List.{list_all}
 use Rattle.checked_tree.specs.Devices.{ArePeripherals}
-use Rattle.frag_tree.specs.declared.krate.Version.TheVariants.{One}
+use Rattle.frag_tree.specs.declared.krate.Version.TheVariants.{Two}
 use Rattle.frag_tree.specs.Trees.{block_tree}
 use Rattle.frag_tree.specs.Validity.{valid_block}
 use Rattle.reg_table.specs.Walk.{FitIn}
@@ -25,7 +25,7 @@ loop-key-init c =
     let fits = device-fits device c.device-device.ensures.fact in
     record {
       blocks = ap₂ (λ made entries. map block_tree made ++ blocks_of device.props (siblings (map peripheral_under entries))) c.new-blocks.ensures.items given;
-      valid = ap (λ made. list_all (valid_block One) (map block_tree made)) c.new-blocks.ensures.items;
+      valid = ap (λ made. list_all (valid_block Two) (map block_tree made)) c.new-blocks.ensures.items;
       fit = subst (λ (entries : List (Sibling × Peripheral)). FitIn 0 device.props (siblings (map peripheral_under entries))) (sym given) fits.0;
       checked = subst (λ (entries : List (Sibling × Peripheral)). ArePeripherals device.props (siblings (map peripheral_under entries))) (sym given) fits.1;
     }
@@ -54,9 +54,9 @@ loop-key-preserved c =
           ∙ (sym (ap (λ entries. map block_tree c.loop-key.blocks.items ++ blocks_of outer (siblings (map peripheral_under entries))) steps)
           ∙ before.blocks))));
       valid =
-          ap (λ l. list_all (valid_block One) (map block_tree l)) c.in_ok-push.ensures.items
-          ∙ (ap (list_all (valid_block One)) (map_push block_tree c.loop-key.blocks.items block)
-          ∙ valid_more (valid_block One) (map block_tree c.loop-key.blocks.items) (block_tree block) before.valid c.in_ok-peripheral_block.ensures.valid);
+          ap (λ l. list_all (valid_block Two) (map block_tree l)) c.in_ok-push.ensures.items
+          ∙ (ap (list_all (valid_block Two)) (map_push block_tree c.loop-key.blocks.items block)
+          ∙ valid_more (valid_block Two) (map block_tree c.loop-key.blocks.items) (block_tree block) before.valid c.in_ok-peripheral_block.ensures.valid);
       fit = fit-others 0 outer x left (subst (λ (entries : List (Sibling × Peripheral)). FitIn 0 outer (siblings (map peripheral_under entries))) steps before.fit);
       checked = peripherals-others outer x left (subst (λ (entries : List (Sibling × Peripheral)). ArePeripherals outer (siblings (map peripheral_under entries))) steps before.checked);
     }

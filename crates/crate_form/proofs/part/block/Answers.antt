@@ -5,7 +5,7 @@ use Rattle.std.proofs.lemmas.Bool.{and_from}
 use Rattle.frag_tree.specs.declared.block.Block.{Block}
 use Rattle.frag_tree.specs.declared.block.Module.{Module}
 use Rattle.frag_tree.specs.declared.block.Module.TheOpen.{Block-F}
-use Rattle.frag_tree.specs.declared.krate.Version.TheVariants.{One}
+use Rattle.frag_tree.specs.declared.krate.Version.TheVariants.{Two}
 use Rattle.frag_tree.specs.Trees.{in_line}
 use Rattle.frag_tree.specs.Validity.{valid_access, valid_block, valid_field, valid_head, valid_modules}
 use Rattle.frag_tree.proofs.Trees.{block_tree-roll}
@@ -23,5 +23,5 @@ returns c =
     let valid = and_from (is_identifier name) (list_all valid_field form.fields && list_all valid_access form.accessors) c.in_ok-accessor_of.ensures.form (and_from (list_all valid_field form.fields) (list_all valid_access form.accessors) c.requires.form.0 c.requires.form.1) in
     record {
       tree = block_tree-roll parts ∙ λ i. record { head = record { name = c.in_ok-accessor_of.ensures.is i; fields = form.fields; accessors = form.accessors }; inside = inside };
-      valid = ap (valid_block One) (block_tree-roll parts) ∙ and_from (valid_head (record { name = name; fields = form.fields; accessors = form.accessors })) (valid_modules One inside) valid (valid_line (units_of c.args.units.items) c.requires.units);
+      valid = ap (valid_block Two) (block_tree-roll parts) ∙ and_from (valid_head (record { name = name; fields = form.fields; accessors = form.accessors })) (valid_modules Two inside) valid (valid_line (units_of c.args.units.items) c.requires.units);
     }

@@ -1,23 +1,17 @@
 -- The child and the module of a register.
-use Rattle.std.proofs.Common.{◌∙◌, sym, ap, subst}
+use Rattle.std.proofs.Common.{◌∙◌, refl, sym, ap, subst}
 use Rattle.std.specs.List.{AllByRecursion}
-use Rattle.std.proofs.lemmas.Bool.{false≢true}
-use Rattle.frag_tree.specs.declared.krate.Version.TheVariants.{One}
+use Rattle.frag_tree.specs.declared.krate.Version.TheVariants.{Two}
 use Rattle.frag_tree.specs.Trees.{one_register}
 use Rattle.frag_tree.proofs.Trees.{module_tree-register}
-use Rattle.reg_table.specs.Walk.{props_inside}
 use Rattle.register_form.specs.declared.register.Register.{Register}
 use Rattle.register_form.specs.Fields.{HasBits}
-use Rattle.register_form.specs.Forms.{form_of, has_arrays}
-use Rattle.svd_model.specs.Steps.{register}
-use Rattle.svd_model.specs.Trees.{register_places, register_tree, step_of}
+use Rattle.register_form.specs.Forms.{form_of}
 use Rattle.svd_model.specs.Unbuilt.{register_under}
-use Rattle.svd_rows.specs.Ranks.{stated}
 use Rattle.crate_form.specs.Parts.{valid_unit}
 use Rattle.crate_form.proofs.Elements.{bytes-register, child-made}
 use Rattle.crate_form.proofs.Named.{register_bits}
 use Rattle.crate_form.proofs.Standing.{offset-register, stands_as}
-use Rattle.crate_form.proofs.Versions.{plain_fields}
 use Rattle.crate_form.proofs.part.register_part.Goals as goal
 
 pub child-requires-clause-named : goal.child-requires-clause-named
@@ -36,9 +30,8 @@ returns c =
     let r = c.args.register.now in
     let made = c.in_ok-made.ensures in
     let unit = c.in_ok-register_form.field-0 in
-    let plain = ap has_arrays made ∙ plain_fields (props_inside (stated (register_places r)) outer) (step_of register key) (stated (register_places r)) (register_tree r).below in
     record {
       child = child-made outer key r c.in_ok-child.child _ c.bytes-bytes.result c.in_ok-child.ensures c.from-size.ensures (bytes-register outer key r c.in_ok-made.made c.bytes-bytes.result made c.bytes-bytes.ensures);
       unit = module_tree-register unit ∙ ap one_register (c.in_ok-register_form.ensures.form ∙ ap form_of made);
-      valid = ap valid_unit (module_tree-register unit) ∙ c.in_ok-register_form.ensures.valid One (λ is. absurd (false≢true (sym plain ∙ is)));
+      valid = ap valid_unit (module_tree-register unit) ∙ c.in_ok-register_form.ensures.valid Two (λ is. refl);
     }

@@ -5,7 +5,6 @@ use Rattle.frag_tree.specs.Crates.{top_text}
 use Rattle.frag_tree.specs.Trees.{block_tree}
 use Rattle.frag_tree.specs.Validity.{valid_block}
 use Rattle.frag_tree.specs.declared.block.Block.{Block}
-use Rattle.frag_tree.specs.declared.krate.Version.TheVariants.{One}
 use Rattle.pac_io.proofs.WrittenUpTo.{none_written}
 use Rattle.frag_emit.proofs.Printing.{few-blocks, module-is, module-valid, prefix-of}
 use Rattle.frag_emit.proofs.emitter.print_module.Goals as goal
@@ -26,7 +25,7 @@ returns-in_ok-print_top_block-in-Some-clause-part g c =
     record {
       bytes = top_text (block_tree c.in-Some.block);
       is = module-is c.args.state.now c.args.index (Some (block_tree c.in-Some.block)) is;
-      valid = module-valid c.args.state.now c.args.index (block_tree c.in-Some.block) is (subst (λ (block : Option Block). IfSome block (λ block. valid_block One (block_tree block) ≡ true)) c.in-Some.is c.in_ok-block.ensures.valid);
+      valid = module-valid c.args.state.now c.args.index (block_tree c.in-Some.block) is (subst (λ (block : Option Block). IfSome block (λ block. valid_block (emitted c.args.state.now).version (block_tree block) ≡ true)) c.in-Some.is c.in_ok-block.ensures.valid);
       appended = c.in_ok-print_top_block-in-Some.ensures.growth;
     }
 

@@ -1,5 +1,5 @@
 -- The row from the declared field is that from its rows.
-use Rattle.std.proofs.Common.{◌≡◌, None, map, sym, ◌∙◌, ap₂}
+use Rattle.std.proofs.Common.{◌≡◌, map, sym, ◌∙◌, ap₂}
 use Rattle.reg_table.specs.Calls.{plain_set, set_calls_of, serves_reading, serves_writing}
 use Rattle.reg_table.specs.declared.row.FieldRow.{FieldRow}
 use Rattle.reg_table.proofs.Parts.{row-field}
@@ -20,7 +20,7 @@ returns c =
       name = c.in_ok-accessor.field-0;
       offset = c.bits_of_place-offset.result.0;
       width = c.bits_of_place-offset.result.1;
-      dim = None;
+      dim = c.field_dim.result;
       readable = c.facts-facts.result.readable;
       writable = c.facts-facts.result.writable;
       kind = c.facts-facts.result.kind;
@@ -30,7 +30,7 @@ returns c =
       name = name i;
       offset = offset i;
       width = width i;
-      dim = None;
+      dim = c.field_dim.ensures i;
       readable = readable i;
       writable = writable i;
       kind = kind i;
