@@ -140,11 +140,7 @@ impl<'a> Maker for Copying<'a> {
         }
     }
 
-    fn field(
-        &self,
-        alloc: Global,
-        fields: &IndexMap<Sibling, Field>,
-    ) -> Result<Field, PatchFault> {
+    fn field(&self, alloc: Global, fields: &IndexMap<Sibling, Field>) -> Result<Field, PatchFault> {
         match named(self.from, fields) {
             Some(from) => or_memory(field_with(alloc, self.keys, from)),
             None => Err(missing(alloc, self.line, self.from)),
@@ -176,5 +172,11 @@ pub fn copy(
         keys,
     };
     let mut total = device.elements();
-    walk(alloc, &copying, parents, &mut total, &mut device.peripherals)
+    walk(
+        alloc,
+        &copying,
+        parents,
+        &mut total,
+        &mut device.peripherals,
+    )
 }
