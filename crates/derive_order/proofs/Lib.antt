@@ -6,3 +6,10 @@ pub mod Over
 pub mod Elements
 pub mod Kids
 pub mod Shuffles
+pub mod Replaced
+pub mod Moving
+pub mod Walks
+pub mod Names
+pub mod Lists
+pub mod Counted
+pub mod Told

@@ -1,2 +1,4 @@
 pub mod Kids
+pub mod Gone
+pub mod Counting
 pub mod Faults
