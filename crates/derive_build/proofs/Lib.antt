@@ -1,0 +1,4 @@
+pub mod Listed
+pub mod Taken
+pub mod Spelling
+pub mod Named

@@ -1,0 +1,12 @@
+use Rattle.std.proofs.Common.{map, ap}
+use Rattle.derive_build.proofs.Listed.{one_more, none_left}
+use Rattle.svd_model.specs.Trees.{field_under}
+use Rattle.derive_build.proofs.listing.add_fields.Goals as goal
+
+pub loop-key-preserved : goal.loop-key-preserved
+loop-key-preserved c =
+    one_more c.loop-key.owns.items c.add_field.new.owns.items (field_under (c.in-Some.key.now, c.in-Some.field.now)) (map field_under c.loop-key.key-iterator) (map field_under c.next.new.self) _
+    (ap (map field_under) c.in-Some.ensures.steps) c.in_ok-add_field.ensures c.loop-key.invariant
+
+pub returns : goal.returns
+returns c = none_left c.loop-key.owns.items (map field_under c.loop-key.key-iterator) _ (ap (map field_under) c.in-None.ensures.steps.0) c.loop-key.invariant

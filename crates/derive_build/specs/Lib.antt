@@ -1,0 +1,3 @@
+pub mod Nodes
+pub mod Taking
+pub mod Children
