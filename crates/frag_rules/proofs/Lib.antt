@@ -1,15 +1,15 @@
-mod Distinct
+pub mod Distinct
 mod Entries
 mod Firsts
 mod Gathering
-mod Insides
+pub mod Insides
 mod Keys
-mod Measuring
+pub mod Measuring
 mod Misfits
 mod PreludeWords
 mod RegisterTests
 mod Results
-mod Rooms
-mod Sizes
+pub mod Rooms
+pub mod Sizes
 mod BlockTests
-mod ByName
+pub mod ByName

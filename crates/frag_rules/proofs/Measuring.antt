@@ -1,6 +1,7 @@
 -- What the code measures of a block is what the layout and the greatest ends say, cut.
 use Rattle.std.proofs.Common.{◌≡◌, ℕ, ◌+◌, ◌-◌, ◌*◌, ◌/◌, ◌≤◌, max, Bool, true, false, nat_le, nat_lt, List, [], ◌∷◌, fold, find, Option, Some, None, option_map, option_and_then, refl, sym, ap, ap₂, ◌∙◌, if◌then◌else◌, arith}
 use Rattle.std.specs.Prelude.{unwrap_or}
+use Rattle.std.specs.Borrow.{Bor}
 use Rattle.std.specs.Int.{next_multiple_of}
 use Rattle.std.specs.Option.{option_or}
 use Rattle.std.specs.Map.{lookup}
@@ -28,7 +29,7 @@ use Rattle.frag_rules.specs.declared.layout.Layout.{Layout}
 use Rattle.frag_rules.specs.declared.inside.Inside.{Inside}
 use Rattle.frag_rules.specs.declared.measure.Measure.{Measure}
 use Rattle.frag_rules.specs.Insides.{found_inside}
-use Rattle.frag_rules.specs.Measures.{Knows, LaidOut, place_found, access_cut, accessors_cut, align_cut, count_found, cut_extent, end_at, end_behind_last, end_cut, end_found, last_from, last_of, measure_seen, measured, module_extent, block_measured, place_at, place_cut, room_found, type_found}
+use Rattle.frag_rules.specs.Measures.{HasLaid, Knows, LaidOut, place_found, access_cut, accessors_cut, align_cut, count_found, cut_extent, end_at, end_behind_last, end_cut, end_found, last_from, last_of, measure_seen, measured, module_extent, block_measured, place_at, place_cut, room_found, type_found}
 use Rattle.frag_rules.proofs.Rooms.{cut-fits, cut-behind, cut-round, cut-sum, cut-times, cut-twice}
 
 -- ---- rooms
@@ -48,7 +49,7 @@ extent-beside wanted modules = each_beside register_extent block_extent wanted m
     by (Some (one_register unit)) = refl
     by (Some (one_block unit)) = refl
 
-room-is : (inside : Inside Measure) (modules : Modules) → Knows inside modules → (element : Element) → room_found (found_inside inside element) ≡ cut_extent (element_extent (extents modules) element)
+pub room-is : (inside : Inside Measure) (modules : Modules) → Knows inside modules → (element : Element) → room_found (found_inside inside element) ≡ cut_extent (element_extent (extents modules) element)
 room-is inside modules knows element =
     room-of (found_inside inside element) (module_of element modules) (knows element) ∙ ap (λ o. cut_extent (extent_or_none o)) (sym (extent-beside element modules))
 
@@ -105,7 +106,7 @@ end-of None (Some tree) same = absurd (none-some (measured tree) same)
 end-of (Some measure) None same = absurd (none-some (measure_seen measure) (sym same))
 end-of (Some measure) (Some tree) same = ap (λ m. m.end) (same_Some (measure_seen measure) (measured tree) same)
 
-some-or : (o : Option ℕ) → unwrap_or (option_map cut o) 0 ≡ cut (unwrap_or o 0)
+pub some-or : (o : Option ℕ) → unwrap_or (option_map cut o) 0 ≡ cut (unwrap_or o 0)
 some-or None = refl
 some-or (Some n) = refl
 
@@ -262,6 +263,12 @@ own-measured unit inside layout look_field size end laid size_is fields end_is k
     let ends_there : end ≡ option_map cut (block_end unit) =
     end_is ∙ accessors-are unit inside knows look_field (place_found layout) fields (λ name. laid.places name ∙ places-are (type_found (found_inside inside)) known takes 0 unit.head.fields name) unit.head.accessors in
     λ i. record { room = record { size = sized i; align = align i }; end = ends_there i }
+
+-- the place of a field in a struct that is laid out
+pub place-known : (unit : BlockTree) (inside : Inside Measure) (fields : List (List ℕ × Bor StructField)) (layout : Layout) → HasLaid unit inside fields layout
+    → (name : List ℕ) → place_found layout name ≡ option_map cut (place_of unit name)
+place-known unit inside fields layout has name =
+    has.laid.places name ∙ places-are (type_found (found_inside inside)) (extents unit.inside) (type-is inside unit.inside has.knows) 0 unit.head.fields name
 
 -- ---- slots
 

@@ -1,16 +1,18 @@
 -- The types of readers and writers by the words that are written for them, as keys of a set.
-use Rattle.std.specs.Prelude.{ℕ, Bool, false, ◌&&◌, ◌==◌, List, map}
+use Rattle.std.specs.Prelude.{ℕ, ◌≡◌, Bool, false, ◌&&◌, ◌||◌, ◌==◌, List, map}
+use Rattle.std.specs.List.{list_any}
 use Rattle.std.specs.Str.{bytes_eq}
 use Rattle.std.specs.declared.hash.FoldHasher.{FoldHasher}
 use Rattle.std.specs.declared.hash.BuildHasherDefault.{BuildHasherDefault}
 use Rattle.indexmap.specs.IndexSet.{IndexSet}
 use Rattle.pac_base.specs.Widths.{bits_of}
-use Rattle.frag_sem.specs.ProxyTypes.{ProxyType, bit_reader, bit_writer, field_reader, field_writer, value_names, values_type}
+use Rattle.frag_sem.specs.ProxyTypes.{ProxyType, bit_reader, bit_writer, field_reader, field_writer, types_of, value_names, values_type}
+use Rattle.frag_tree.specs.declared.register.RegisterModule.{RegisterModule}
 use Rattle.frag_tree.specs.declared.register.Values.{Values}
 use Rattle.frag_tree.specs.Registers.{kind_word}
-use Rattle.frag_rules.specs.declared.values.CallKey.{CallKey}
-use Rattle.frag_rules.specs.declared.values.TypeKey.{TypeKey}
-use Rattle.frag_rules.specs.declared.values.TypeKey.TheVariants as key
+use Rattle.frag_rules.specs.declared.proxy.CallKey.{CallKey}
+use Rattle.frag_rules.specs.declared.proxy.TypeKey.{TypeKey}
+use Rattle.frag_rules.specs.declared.proxy.TypeKey.TheVariants as key
 
 pub data Key : Type 0 where
   reads_bit : List ℕ → Key
@@ -37,6 +39,18 @@ same_key (reads_field one width) (reads_field other also) = bytes_eq one other &
 same_key (writes_bit kind one) (writes_bit also other) = bytes_eq kind also && bytes_eq one other
 same_key (writes_field one width bits) (writes_field other also as_many) = bytes_eq one other && (width == also && bits == as_many)
 same_key _ _ = false
+
+-- the types of a set
+abbrev pub types_seen : IndexSet TypeKey (BuildHasherDefault FoldHasher) → List Key
+types_seen seen = map key_seen seen.keys
+
+-- a key is among these new ones where it is among the old ones or these others
+abbrev pub HasAlso : List Key → List Key → List Key → Type 0
+HasAlso old others new = (wanted : Key) → list_any (same_key wanted) new ≡ (list_any (same_key wanted) old || list_any (same_key wanted) others)
+
+-- a key is among these where it is that of a type of the register
+abbrev pub HasTypes : List Key → RegisterModule → Type 0
+HasTypes types unit = (wanted : Key) → list_any (same_key wanted) types ≡ list_any (same_key wanted) (map key_of (types_of unit))
 
 -- a call with the key of its type
 abbrev pub call_seen : CallKey → Key × List ℕ

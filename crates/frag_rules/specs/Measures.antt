@@ -1,11 +1,12 @@
 -- What a module takes in memory and where its last register ends, counted no further than 2^64 + 1.
 use Rattle.std.specs.Prelude.{ℕ, ◌≡◌, ◌+◌, ◌-◌, ◌*◌, ◌/◌, ◌^◌, max, Bool, nat_le, List, [], ◌∷◌, Option, Some, None, option_map, option_and_then, unwrap_or, if◌then◌else◌}
 use Rattle.std.specs.Int.{next_multiple_of}
+use Rattle.std.specs.Borrow.{Bor}
 use Rattle.std.specs.Map.{lookup}
 use Rattle.std.specs.Str.{bytes_eq}
 use Rattle.pac_base.specs.Widths.{bits_of}
 use Rattle.frag_sem.specs.AddressEnds.{End, cut, greater, module_end}
-use Rattle.frag_sem.specs.CallPlaces.{type_count}
+use Rattle.frag_sem.specs.CallPlaces.{field_named, type_count}
 use Rattle.frag_sem.specs.Layout.{Extent, extent_of, register_extent}
 use Rattle.frag_tree.specs.declared.access.Access.{Access}
 use Rattle.frag_tree.specs.declared.access.Body.{Body}
@@ -16,6 +17,7 @@ use Rattle.frag_tree.specs.declared.block.FieldType.TheVariants as holds
 use Rattle.frag_tree.specs.declared.block.StructField.{StructField}
 use Rattle.frag_sem.specs.Modules.{module_of}
 use Rattle.frag_rules.specs.Insides.{found_inside}
+use Rattle.frag_rules.specs.Naming.{named_in}
 use Rattle.frag_tree.specs.Trees.{BlockTree, Modules, ModuleTree, one_block, one_register}
 use Rattle.frag_rules.specs.declared.extent.Room.{Room}
 use Rattle.frag_rules.specs.declared.inside.Inside.{Inside}
@@ -132,6 +134,12 @@ place_found layout name = lookup (bytes_eq name) layout.places
 -- each module inside is measured
 abbrev pub Knows : Inside Measure → Modules → Type 0
 Knows inside modules = (wanted : Element) → option_map measure_seen (found_inside inside wanted) ≡ option_map measured (module_of wanted modules)
+
+-- the modules of a block are measured, and its struct is laid out with its fields under their names
+pub record HasLaid (unit : BlockTree) (inside : Inside Measure) (fields : List (List ℕ × Bor StructField)) (layout : Layout) : Type 0 where
+  pub knows : Knows inside unit.inside
+  pub found : (name : List ℕ) → named_in fields name ≡ field_named name unit.head.fields
+  pub laid : LaidOut (type_found (found_inside inside)) unit.head.fields layout
 
 -- a block at the top, measured
 abbrev pub block_measured : BlockTree → Measured

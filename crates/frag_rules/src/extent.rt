@@ -8,7 +8,7 @@ use pac_base::Width;
 /// What something takes in memory, in bytes. A size behind 2^64 counts as the next number; an alignment is that of
 /// a word.
 #[derive(Clone, Copy)]
-pub(crate) struct Room {
+pub struct Room {
     pub size: u128,
     pub align: Width,
 }

@@ -13,14 +13,14 @@ use std::alloc::Global;
 
 /// What is known of each module of one parent, by the element that names it.
 #[derive(Drop)]
-pub(crate) struct Inside<'a, T> {
+pub struct Inside<'a, T> {
     registers: Named<'a, T>,
     blocks: Named<'a, T>,
 }
 
 impl<'a, T: Drop> Inside<'a, T> {
     /// No modules.
-    pub(crate) fn new(alloc: Global) -> Inside<'a, T>
+    pub fn new(alloc: Global) -> Inside<'a, T>
         ensures { holds_nothing result }
     {
         Inside {
@@ -31,7 +31,7 @@ impl<'a, T: Drop> Inside<'a, T> {
 
     /// What is known of the module that the element names.
     #[tactic(auto, unfolding(crate::specs::Insides::found_inside))]
-    pub(crate) fn get(&self, element: &Element) -> Option<&T>
+    pub fn get(&self, element: &Element) -> Option<&T>
         ensures { option_copied result ≡ found_inside self.now element.now }
     {
         match element {
@@ -41,7 +41,7 @@ impl<'a, T: Drop> Inside<'a, T> {
     }
 
     /// Keeps what is known of a module, where none before it is named so.
-    pub(crate) fn keep(&mut self, unit: &'a Module, known: T) -> Result<(), NoMemory>
+    pub fn keep(&mut self, unit: &'a Module, known: T) -> Result<(), NoMemory>
         ensures { IfOk result (λ _. (wanted : Element) → found_inside self.new wanted ≡ option_or (found_inside self.old wanted) (if same_element wanted (element_of (module_tree unit.now)) then Some known else None)) }
     {
         match unit {

@@ -17,14 +17,14 @@ use std::alloc::Global;
 /// Where the fields of a struct stand, in bytes from its start: the end of the last, the greatest alignment, and the
 /// place of each name.
 #[derive(Drop)]
-pub(crate) struct Layout<'a> {
+pub struct Layout<'a> {
     pub end: u128,
     pub align: Width,
     pub places: Named<'a, u128>,
 }
 
 /// What an element takes.
-pub(crate) fn element_room(inside: &Inside<'_, Measure>, element: &Element) -> Room
+pub fn element_room(inside: &Inside<'_, Measure>, element: &Element) -> Room
     ensures { room_seen result ≡ room_found (found_inside inside.now element.now) }
 {
     match inside.get(element) {
@@ -77,7 +77,7 @@ impl<'a> Layout<'a> {
 }
 
 /// The layout of a struct.
-pub(crate) fn layout_of<'a>(
+pub fn layout_of<'a>(
     alloc: Global,
     inside: &Inside<'_, Measure>,
     fields: &'a [StructField],

@@ -12,10 +12,19 @@ mod named;
 mod parts;
 mod place;
 mod prelude;
+mod proxy;
 mod range;
 mod register;
 mod rule;
 mod values;
 
+pub use extent::Room;
 pub use first::{Broken, first_broken};
+pub use inside::Inside;
+pub use layout::{Layout, element_room, layout_of};
+pub use measure::{Measure, measure_laid, measure_register};
+pub use named::{HasName, Named, by_name};
+pub use proxy::{
+    CallKey, TypeKey, key_of_reader, key_of_values, key_of_writer, numbers_of, truths_of,
+};
 pub use rule::Rule;

@@ -6,7 +6,7 @@ ghost use Rattle.frag_tree.specs.declared.block.Element.{Element};
 ghost use Rattle.frag_tree.specs.Trees.{block_tree, crate_tree, in_line, module_tree, one_block, one_register};
 ghost use Rattle.frag_rules.specs.Gathering.{blocks_at};
 ghost use Rattle.frag_rules.specs.Insides.{found_inside};
-ghost use Rattle.frag_rules.specs.Measures.{access_cut, accessors_cut, count_found, end_behind_last, end_found, last_from, last_of, measure_seen, measured, place_found, size_fits, Knows};
+ghost use Rattle.frag_rules.specs.Measures.{access_cut, accessors_cut, count_found, end_behind_last, end_found, last_from, last_of, measure_seen, measured, place_found, size_fits, HasLaid, Knows};
 ghost use Rattle.frag_rules.specs.Naming.{named_in};
 
 use crate::block::{accessors_of, fields_of};
@@ -21,7 +21,7 @@ use std::alloc::Global;
 /// What a module takes, and where the last register ends to which its accessors lead, in bytes from its start; no end
 /// where they lead to none.
 #[derive(Clone, Copy)]
-pub(crate) struct Measure {
+pub struct Measure {
     pub room: Room,
     pub end: Option<u128>,
 }
@@ -144,7 +144,7 @@ fn accessors_end(
 }
 
 /// A register module.
-fn measure_register(unit: &RegisterModule) -> Measure
+pub fn measure_register(unit: &RegisterModule) -> Measure
     ensures { measure_seen result ≡ measured (one_register unit.now) }
 {
     Measure {
@@ -153,6 +153,24 @@ fn measure_register(unit: &RegisterModule) -> Measure
             align: unit.word,
         },
         end: Some(u128::from(unit.word.bytes())),
+    }
+}
+
+/// A block whose modules are measured and whose struct is laid out.
+pub fn measure_laid(
+    block: &Block,
+    inside: &Inside<'_, Measure>,
+    fields: &Named<'_, &StructField>,
+    layout: &Layout<'_>,
+) -> Measure
+    ensures { HasLaid (block_tree block.now) inside.now fields.now layout.now → measure_seen result ≡ measured (one_block (block_tree block.now)) }
+{
+    Measure {
+        room: Room {
+            size: round_up(layout.end, layout.align),
+            align: layout.align,
+        },
+        end: accessors_end(fields, layout, inside, accessors_of(block)),
     }
 }
 
@@ -166,14 +184,7 @@ fn measure_own(
 {
     let layout = layout_of(alloc, inside, fields_of(block))?;
     let fields = by_name(alloc, fields_of(block))?;
-    let end = accessors_end(&fields, &layout, inside, accessors_of(block));
-    Ok(Measure {
-        room: Room {
-            size: round_up(layout.end, layout.align),
-            align: layout.align,
-        },
-        end,
-    })
+    Ok(measure_laid(block, inside, &fields, &layout))
 }
 
 /// Which blocks have been measured: how many, and the first that is too large, by how many stand before it.

@@ -16,7 +16,7 @@ use std::alloc::Global;
 use std::marker::Model;
 
 /// What has a name.
-pub(crate) trait HasName {
+pub trait HasName {
     // The name, as its bytes.
     ghost name_of: { Self → List ℕ };
 
@@ -94,7 +94,7 @@ impl HasName for Writer {
 
 /// Items by their names. Contracts see it as a list of names with their items.
 #[derive(Drop)]
-pub(crate) struct Named<'a, T> {
+pub struct Named<'a, T> {
     held: IndexMap<&'a [u8], T>,
 }
 
@@ -109,7 +109,7 @@ impl<'a, T> Model for Named<'a, T> {
 
 impl<'a, T: Drop> Named<'a, T> {
     /// No items.
-    pub(crate) fn new(alloc: Global) -> Named<'a, T>
+    pub fn new(alloc: Global) -> Named<'a, T>
         ensures { result ≡ [] }
     {
         Named {
@@ -118,21 +118,21 @@ impl<'a, T: Drop> Named<'a, T> {
     }
 
     /// The item that has the name.
-    pub(crate) fn get(&self, name: &[u8]) -> Option<&T>
+    pub fn get(&self, name: &[u8]) -> Option<&T>
         ensures { option_copied result ≡ lookup (bytes_eq name.now) self.now }
     {
         self.held.get(name)
     }
 
     /// Whether an item has the name.
-    pub(crate) fn has(&self, name: &[u8]) -> bool
+    pub fn has(&self, name: &[u8]) -> bool
         ensures { result ≡ is_some (lookup (bytes_eq name.now) self.now) }
     {
         self.get(name).is_some()
     }
 
     /// Gives the name this item, where it has none.
-    pub(crate) fn keep(&mut self, name: &'a [u8], item: T) -> Result<(), NoMemory>
+    pub fn keep(&mut self, name: &'a [u8], item: T) -> Result<(), NoMemory>
         ensures { IfOk result (λ _. (other : List ℕ) → lookup (bytes_eq other) self.new ≡ option_or (lookup (bytes_eq other) self.old) (if bytes_eq other name.now then Some item else None)) }
     {
         if self.has(name) {
@@ -144,10 +144,7 @@ impl<'a, T: Drop> Named<'a, T> {
 }
 
 /// Items by their names, the first where several have one name.
-pub(crate) fn by_name<'a, T: HasName>(
-    alloc: Global,
-    items: &'a [T],
-) -> Result<Named<'a, &'a T>, NoMemory>
+pub fn by_name<'a, T: HasName>(alloc: Global, items: &'a [T]) -> Result<Named<'a, &'a T>, NoMemory>
     ensures { IfOk result (λ named. FindsFirst T.HasName.name_of items.now named) }
 {
     let mut named = Named::new(alloc);

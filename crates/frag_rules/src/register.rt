@@ -378,7 +378,7 @@ pub(crate) fn broken_in_register(
         RegisterRule::ReaderPlaces => Ok(reader_places(unit)),
         RegisterRule::WriterMarkers => writer_markers(alloc, unit),
         RegisterRule::WriterPlaces => Ok(writer_places(unit)),
-        RegisterRule::ValueTypes => Ok(value_types(unit)),
+        RegisterRule::ValueTypes => value_types(alloc, unit),
         RegisterRule::ValueLiterals => Ok(value_literals(unit)),
         RegisterRule::PreludeNames => Ok(prelude_names(version, unit)),
         RegisterRule::Directions => Ok(itself(directions_agree(unit))),

@@ -14,7 +14,8 @@ pub enum Rule {
     ModulePaths,
     /// An accessor's body names a field of the struct.
     BodyFields,
-    /// That field is of the accessor's element, and the accessor is indexed exactly where its body is.
+    /// That field holds one of the accessor's element where the body names it alone, and an array of them where the
+    /// body takes a member; and the accessor takes an index exactly where its body uses one.
     BodyTypes,
     /// A count is at least 1.
     Counts,

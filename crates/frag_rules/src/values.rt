@@ -1,167 +1,23 @@
-ghost use Rattle.std.specs.Prelude.{◌≡◌, ◌&&◌, ◌||◌, ◌++◌, [], ◌∷◌, ◌^◌, IfOk, OnOk, is_none, map, nat_lt, not, true};
+ghost use Rattle.std.specs.Prelude.{◌≡◌, ◌&&◌, ◌++◌, [], ◌∷◌, ◌^◌, IfOk, OnOk, is_none, map, nat_lt, not, true};
 ghost use Rattle.std.specs.List.{list_all, list_any};
 ghost use Rattle.pac_base.specs.Widths.{bits_of};
 ghost use Rattle.frag_sem.specs.CrateTyping.{is_free, same_call, value_calls, values_fit};
 ghost use Rattle.frag_sem.specs.Modules.{are_distinct};
-ghost use Rattle.frag_sem.specs.ProxyTypes.{number_calls, reader_type, same_type, truth_calls, types_of, value_names, values_type, writer_type};
+ghost use Rattle.frag_sem.specs.ProxyTypes.{value_names, values_type};
 ghost use Rattle.frag_rules.specs.Bodies.{misfit};
-ghost use Rattle.frag_rules.specs.Keys.{call_key, call_seen, calls_on, calls_seen, key_of, key_seen, same_call_key, same_key};
+ghost use Rattle.frag_rules.specs.Keys.{call_key, call_seen, calls_on, calls_seen, key_of, key_seen, same_call_key, same_key, types_seen};
 ghost use Rattle.frag_rules.specs.Rules.{register_test};
 
 use crate::parts::calls_in;
 use crate::place::earlier;
 use crate::prelude::is_free;
-use crate::register::{has_bits, items_before_values, readers_of, writers_of};
+use crate::proxy::{CallKey, TypeKey, is_typed, key_of_values, numbers_of, truths_of, types_in};
+use crate::register::{has_bits, items_before_values};
 use crate::rule::RegisterRule;
-use frag_tree::{
-    NumberCall, ReadForm, Reader, RegisterModule, TruthCall, Values, Version, WriteForm, Writer,
-    kind_word,
-};
+use frag_tree::{NumberCall, RegisterModule, TruthCall, Values, Version};
 use indexmap::IndexSet;
 use pac_base::{NoMemory, Width};
 use std::alloc::Global;
-
-/// The type of a reader or a writer of a field, on which the calls of values stand, by the words that are written
-/// for it: its marker, the bits of its number, its writer and the bits of its field.
-#[derive(Clone, Copy, PartialEq, Eq, Hash)]
-pub(crate) enum TypeKey<'a> {
-    BitReader(&'a [u8]),
-    FieldReader(&'a [u8], u32),
-    BitWriter(&'a [u8], &'a [u8]),
-    FieldWriter(&'a [u8], u32, u64),
-}
-
-/// A call of a value, with the type on which it stands.
-#[derive(Clone, Copy, PartialEq, Eq, Hash)]
-pub(crate) struct CallKey<'a> {
-    pub on: TypeKey<'a>,
-    pub name: &'a [u8],
-}
-
-/// The type of a reader.
-fn key_of_reader<'a>(reader: &'a Reader) -> TypeKey<'a>
-    ensures { key_seen result ≡ key_of (reader_type reader.now) }
-{
-    match &reader.form {
-        ReadForm::Bit { .. } => TypeKey::BitReader(reader.marker.bytes()),
-        ReadForm::Field { width, .. } => {
-            TypeKey::FieldReader(reader.marker.bytes(), width.bits())
-        }
-    }
-}
-
-/// The type of a writer.
-fn key_of_writer<'a>(writer: &'a Writer) -> TypeKey<'a>
-    ensures { key_seen result ≡ key_of (writer_type writer.now) }
-{
-    match &writer.form {
-        WriteForm::Bit { kind, .. } => TypeKey::BitWriter(kind_word(*kind), writer.marker.bytes()),
-        WriteForm::Field { width, bits, .. } => {
-            TypeKey::FieldWriter(writer.marker.bytes(), width.bits(), *bits)
-        }
-    }
-}
-
-/// The type on which a block of values stands.
-fn key_of_values<'a>(block: &'a Values) -> TypeKey<'a>
-    ensures { key_seen result ≡ key_of (values_type block.now) }
-{
-    match block {
-        Values::BitReading { marker, .. } => TypeKey::BitReader(marker.bytes()),
-        Values::FieldReading { marker, width, .. } => {
-            TypeKey::FieldReader(marker.bytes(), width.bits())
-        }
-        Values::BitWriting { kind, marker, .. } => {
-            TypeKey::BitWriter(kind_word(*kind), marker.bytes())
-        }
-        Values::FieldWriting {
-            marker,
-            width,
-            bits,
-            ..
-        } => TypeKey::FieldWriter(marker.bytes(), width.bits(), *bits),
-    }
-}
-
-/// The calls of a block that stand for truths.
-fn truths_of(block: &Values) -> &[TruthCall]
-    ensures { result.now ≡ truth_calls block.now }
-{
-    match block {
-        Values::BitReading { calls, .. } => calls.as_slice(),
-        Values::FieldReading { .. } => &[],
-        Values::BitWriting { calls, .. } => calls.as_slice(),
-        Values::FieldWriting { .. } => &[],
-    }
-}
-
-/// The calls of a block that stand for numbers.
-fn numbers_of(block: &Values) -> &[NumberCall]
-    ensures { result.now ≡ number_calls block.now }
-{
-    match block {
-        Values::BitReading { .. } => &[],
-        Values::FieldReading { calls, .. } => calls.as_slice(),
-        Values::BitWriting { .. } => &[],
-        Values::FieldWriting { calls, .. } => calls.as_slice(),
-    }
-}
-
-// ---- types
-
-impl<'a> TypeKey<'a> {
-    /// Whether both are one type.
-    fn same(self, other: TypeKey<'_>) -> bool
-        ensures { result ≡ same_key (key_seen self.entry) (key_seen other.entry) }
-    {
-        match (self, other) {
-            (TypeKey::BitReader(one), TypeKey::BitReader(other)) => one == other,
-            (TypeKey::FieldReader(one, width), TypeKey::FieldReader(other, also)) => {
-                one == other && width == also
-            }
-            (TypeKey::BitWriter(kind, one), TypeKey::BitWriter(also, other)) => {
-                kind == also && one == other
-            }
-            (TypeKey::FieldWriter(one, width, bits), TypeKey::FieldWriter(other, also, as_many)) =>
-                { one == other && (width == also && bits == as_many) }
-            _ => false,
-        }
-    }
-}
-
-/// Whether one of the readers has the type on which a block stands.
-fn is_read(readers: &[Reader], block: &Values) -> bool
-    ensures { result ≡ list_any (λ reader. same_key (key_of (values_type block.now)) (key_of (reader_type reader))) readers.now }
-{
-    readers
-        .iter()
-        .any(|reader| key_of_values(block).same(key_of_reader(reader)))
-}
-
-/// Whether one of the writers has the type on which a block stands.
-fn is_written(writers: &[Writer], block: &Values) -> bool
-    ensures { result ≡ list_any (λ writer. same_key (key_of (values_type block.now)) (key_of (writer_type writer))) writers.now }
-{
-    writers
-        .iter()
-        .any(|writer| key_of_values(block).same(key_of_writer(writer)))
-}
-
-fn either(one: bool, other: bool) -> bool
-    ensures { result ≡ (one || other) }
-{
-    one || other
-}
-
-/// Whether a block of values stands on the type of a reader or a writer of the register.
-fn is_typed(unit: &RegisterModule, block: &Values) -> bool
-    ensures { result ≡ list_any (same_type (values_type block.now)) (types_of unit.now) }
-{
-    either(
-        is_read(readers_of(unit), block),
-        is_written(writers_of(unit), block),
-    )
-}
 
 /// How many items of a register module stand before one of its blocks of values.
 fn items_before_block(unit: &RegisterModule, block: usize) -> usize {
@@ -182,17 +38,18 @@ fn block_item(unit: &RegisterModule, block: Option<usize>) -> Option<usize>
     }
 }
 
-fn untyped(unit: &RegisterModule, values: &[Values]) -> Option<usize>
-    ensures { result ≡ misfit (λ block. list_any (same_type (values_type block)) (types_of unit.now)) values.now }
+fn untyped(types: &IndexSet<TypeKey<'_>>, values: &[Values]) -> Option<usize>
+    ensures { result ≡ misfit (λ block. list_any (same_key (key_of (values_type block))) (types_seen types.now)) values.now }
 {
-    values.iter().position(|block| !is_typed(unit, block))
+    values.iter().position(|block| !is_typed(types, block))
 }
 
 /// The first block of values that stands on no type of the register.
-pub(crate) fn value_types(unit: &RegisterModule) -> Option<usize>
-    ensures { is_none result ≡ register_test RegisterRule.ValueTypes Version.One unit.now }
+pub(crate) fn value_types(alloc: Global, unit: &RegisterModule) -> Result<Option<usize>, NoMemory>
+    ensures { IfOk result (λ item. is_none item ≡ register_test RegisterRule.ValueTypes Version.One unit.now) }
 {
-    block_item(unit, untyped(unit, unit.values.as_slice()))
+    let types = types_in(alloc, unit)?;
+    Ok(block_item(unit, untyped(&types, unit.values.as_slice())))
 }
 
 // ---- literals and names

@@ -1,5 +1,5 @@
 use Rattle.std.proofs.Common.{sym, ap, ◌∙◌, map, List, drop, ◌+◌, arith}
-use Rattle.frag_rules.specs.declared.values.CallKey.{CallKey}
+use Rattle.frag_rules.specs.declared.proxy.CallKey.{CallKey}
 use Rattle.frag_rules.specs.Keys.{call_seen, calls_seen, same_call_key}
 use Rattle.frag_rules.proofs.Distinct.{drop-at, drop-end, fresh-all, fresh-done, fresh-more, fresh-stops, fresh_behind}
 use Rattle.frag_rules.proofs.Keys.{call-turned}

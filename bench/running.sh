@@ -1,0 +1,48 @@
+#!/usr/bin/env bash
+# Times `pac exec` of 65,536 statements on crate texts of growing size that `pac generate` prints, beside rustc: with -O it
+# builds the same text with support/generic.rs and the same calls, which then run on the recording bus. rustc is timed once.
+top="$(cd "$(dirname "$0")/.." && pwd)" || exit 2
+program="$top/crates/pac_main/out/pac_main"
+[ -x "$program" ] || { echo "build the program first: $top/pac list $top/examples/one_register.svd" >&2; exit 2; }
+. "$top/bench/timing.sh"
+needs python3 rustc
+mkdir "$folder/rust"
+cp "$top/support/generic.rs" "$folder/rust/generic.rs"
+
+printf '%8s %9s %9s %9s %12s\n' 'text MB' 'typed s' 'exec s' 'rustc s' 'exec/rustc'
+for megabytes in "${@:-1}"; do
+    "$top/bench/description" "$megabytes" "$folder/device.svd"
+    "$program" generate "$folder/device.svd" >"$folder/rust/device.rs" || exit 1
+    "$program" list "$folder/device.svd" >"$folder/list" || exit 1
+    : >"$folder/none.script"
+    python3 - "$folder" <<'PYTHON'
+import re, sys
+folder = sys.argv[1]
+places = [words[0] for words in map(str.split, filter(lambda line: line[0] != " ", open(f"{folder}/list")))
+          if words[3] == "rw" and "[" not in words[0]]
+calls = []
+for n in range(65536):
+    slot, *path = places[n * 7919 % len(places)].split(".")
+    calls.append(f"{slot}.{'.'.join(step + '()' for step in path)}.modify(|_, w| w.bits({n % 199}));")
+open(f"{folder}/many.script", "w").write("\n".join(calls) + "\n")
+with open(f"{folder}/rust/main.rs", "w") as out:
+    out.write("pub mod generic;\n#[allow(non_camel_case_types, non_snake_case, unused_imports, dead_code)]\nmod device;\n"
+              "use generic::{recording, steal};\n")
+    groups = [calls[n:n + 256] for n in range(0, len(calls), 256)]
+    for n, group in enumerate(groups):
+        out.write(f"fn part{n}(device: &device::Peripherals) {{\n" + "".join(f"    device.{call}\n" for call in group) + "}\n")
+    out.write("fn main() {\n    let device = unsafe { steal::<device::Peripherals>() };\n"
+              "    recording::start(recording::Bus::Memory);\n"
+              + "".join(f"    part{n}(&device);\n" for n in range(len(groups)))
+              + "    for access in recording::take() { println!(\"{access}\"); }\n}\n")
+PYTHON
+    read -r typed_time _ < <(best "$program" exec "$folder/rust/device.rs" "$folder/none.script" --bus memory)
+    read -r exec_time _ < <(best "$program" exec "$folder/rust/device.rs" "$folder/many.script" --bus memory)
+    cp "$folder/out" "$folder/events"
+    /usr/bin/time -f %e -o "$folder/rustc_time" bash -c 'rustc --edition 2021 -O -A warnings --cfg "feature=\"recording\"" -o "$0/run" "$0/rust/main.rs" && "$0/run" >"$0/rust_events"' "$folder" ||
+        { echo "rustc failed" >&2; exit 1; }
+    # The two lines differ where a first read gives the reset word: exec presets it, and the recording bus here doesn't.
+    [ "$(grep -c write "$folder/events")" -eq "$(grep -c write "$folder/rust_events")" ] || { echo "the accesses differ" >&2; exit 1; }
+    awk -v b="$(stat -c %s "$folder/rust/device.rs")" -v t="$typed_time" -v e="$exec_time" -v r="$(cat "$folder/rustc_time")" \
+        'BEGIN { printf "%8.1f %9.2f %9.2f %9.2f %12.4f\n", b / 1e6, t, e, r, e / r }'
+done

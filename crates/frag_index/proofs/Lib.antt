@@ -1,0 +1,4 @@
+mod Adding
+mod Cutting
+mod Stepping
+mod Walking
