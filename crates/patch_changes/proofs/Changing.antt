@@ -1,6 +1,6 @@
 -- `_modify` at one element: one child after the other, in the tree and among the rows.
-use Rattle.std.proofs.Common.{◌≡◌, ℕ, Bool, true, false, cond, ◌&&◌, ◌||◌, List, [], ◌∷◌, ◌++◌, filter, Option, None, Some, Ok, Err, refl, sym, ap, ap₂, ◌∙◌, subst}
-use Rattle.std.specs.List.{AllByRecursion, list_any}
+use Rattle.std.proofs.Common.{◌≡◌, ℕ, Bool, true, false, cond, ◌&&◌, List, [], ◌∷◌, ◌++◌, filter, Option, None, Some, Ok, refl, sym, ap, ◌∙◌, subst}
+use Rattle.std.specs.List.{list_any}
 use Rattle.patch_changes.proofs.Siblings.{absent-before, absent-behind, all-set, distinct-keys, distinct-renamed, fresh, none-before, none-behind, sibling-named, under-name}
 use Rattle.patch_changes.specs.Changes.{changed_behind, changed_below, named, new_keys, new_step}
 use Rattle.patch_changes.specs.Laws.{ModifyingIsChanging}
@@ -14,10 +14,10 @@ use Rattle.patch_sem.specs.Copying.{renamed_step}
 use Rattle.patch_sem.specs.Modifying.{is_of_sibling, modified_each, modifying, new_name, renaming, under_name}
 use Rattle.patch_sem.specs.Patching.{done_at}
 use Rattle.patch_sem.specs.Selecting.{Rows, is_named, is_patched, selects}
-use Rattle.patch_sem.specs.Settings.{container_of, keys_set, keys_with, with_keys}
+use Rattle.patch_sem.specs.Settings.{container_of, keys_set, keys_with}
 use Rattle.patch_sem.specs.Steps.{Outcome, ◌>>=◌, refused_if, unless_none}
 use Rattle.svd_model.specs.Keys.{Key, rank}
-use Rattle.svd_model.specs.Steps.{Kind, Step, peripheral, cluster, register, field, set, value, same_step}
+use Rattle.svd_model.specs.Steps.{Step, peripheral, cluster, register, field, set, value, same_step}
 use Rattle.svd_rows.proofs.Facts.{steps-join}
 use Rattle.svd_rows.proofs.LookUps.{children_of-rows}
 use Rattle.svd_rows.specs.Elements.{Every, IsDistinct}

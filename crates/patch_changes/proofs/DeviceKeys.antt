@@ -1,5 +1,5 @@
 -- The keys of a device, set in its tree and among its rows.
-use Rattle.std.proofs.Common.{◌≡◌, ◌≤◌, ◌<◌, ℕ, ◌+◌, List, [], ◌∷◌, ◌++◌, map, set, length, Option, Some, None, Ok, refl, sym, ap, ap₂, ◌∙◌, subst, arith, length-set}
+use Rattle.std.proofs.Common.{◌≡◌, ◌≤◌, ◌<◌, ℕ, List, [], ◌∷◌, set, length, Some, Ok, refl, sym, ap, ap₂, ◌∙◌, subst, arith, length-set}
 use Rattle.patch_edits.proofs.Contexts.{in_limit, inside-context, put-context, tree_with}
 use Rattle.patch_edits.specs.Commands.{order_at}
 use Rattle.patch_edits.specs.Visits.{Below}
@@ -26,7 +26,7 @@ use Rattle.svd_rows.specs.Edits.{within}
 use Rattle.svd_rows.specs.Forest.{Tree}
 use Rattle.svd_rows.specs.LookUps.{inside}
 use Rattle.svd_rows.specs.Ranks.{IsPlaced, stated}
-use Rattle.svd_rows.specs.Rows.{rows, under_path}
+use Rattle.svd_rows.specs.Rows.{rows}
 use Rattle.svd_rows.specs.Standing.{Stands}
 use Rattle.svd_schema.specs.declared.container.Container.TheVariants as container
 

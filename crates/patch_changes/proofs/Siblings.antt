@@ -1,6 +1,6 @@
 -- One of the children of an element, between those before and those behind it: what it is there, and other keys and
 -- another step of it.
-use Rattle.std.proofs.Common.{◌≡◌, ℕ, Bool, true, false, cond, not, ◌&&◌, ◌||◌, nat_eq, nat_le, List, [], ◌∷◌, ◌++◌, map, Option, Some, None, option_and_then, refl, sym, ap, ap₂, ◌∙◌, subst, eqb-true}
+use Rattle.std.proofs.Common.{◌≡◌, ℕ, Bool, true, false, not, ◌&&◌, ◌||◌, nat_eq, nat_le, List, [], ◌∷◌, ◌++◌, Some, option_and_then, refl, sym, ap, ap₂, ◌∙◌, eqb-true}
 use Rattle.std.proofs.lemmas.Bool.{cond-false, cond-true}
 use Rattle.std.specs.List.{AllByRecursion, list_any}
 use Rattle.std.specs.Str.{bytes_eq}
@@ -9,19 +9,17 @@ use Rattle.patch_edits.proofs.Contexts.{tree_with}
 use Rattle.patch_edits.specs.Visits.{Below}
 use Rattle.patch_sem.specs.Copying.{renamed_step}
 use Rattle.patch_sem.specs.Modifying.{is_of_sibling, under_name}
-use Rattle.patch_sem.specs.Selecting.{Rows, is_named, is_patched}
+use Rattle.patch_sem.specs.Selecting.{is_named, is_patched}
 use Rattle.patch_sem.specs.Settings.{keys_with, with_keys}
 use Rattle.svd_model.proofs.Steps.{same_step-tells}
 use Rattle.svd_model.specs.Keys.{Key, rank}
 use Rattle.svd_model.specs.Steps.{Kind, Step, peripheral, cluster, register, field, set, value, kind_number, same_kind, same_step}
-use Rattle.svd_rows.proofs.Facts.{IsDistinct-in_children}
 use Rattle.svd_rows.proofs.Keys.{rows-with_keys}
 use Rattle.svd_rows.proofs.Renaming.{rows-with_renamed}
 use Rattle.svd_rows.proofs.Standing.{element_at-stands, in_children-split}
-use Rattle.svd_rows.specs.Edits.{in_children, renamed, within}
+use Rattle.svd_rows.specs.Edits.{renamed, within}
 use Rattle.svd_rows.specs.Elements.{IsAbsent, IsDistinct, child_at, element_at}
 use Rattle.svd_rows.specs.Forest.{Tree, join, leaf, node, steps}
-use Rattle.svd_rows.specs.Paths.{exactly}
 use Rattle.svd_rows.specs.Ranks.{IsRanked, set_key}
 use Rattle.svd_rows.specs.RowEdits.{other_step}
 use Rattle.svd_rows.specs.Rows.{rows}

@@ -1,5 +1,5 @@
 -- An element over whose keys lie those that texts set, where it has a place for them, has these keys set.
-use Rattle.std.proofs.Common.{◌≡◌, ◌≤◌, ℕ, List, [], ◌∷◌, map, length, refl, sym, ap, ◌∙◌}
+use Rattle.std.proofs.Common.{◌≡◌, map, length, refl, sym, ap, ◌∙◌}
 use Rattle.patch_model.specs.Acts.{KeyList}
 use Rattle.patch_sem.specs.Settings.{keys_set, keys_with}
 use Rattle.patch_settings.proofs.KeyForms.{IsSetAt, keys_set-fit}
@@ -8,18 +8,15 @@ use Rattle.patch_settings.specs.Places.{KeyPlaces, fitting, merged, none_placed,
 use Rattle.patch_settings.specs.Setting.{IsSet}
 use Rattle.svd_model.proofs.Placed.{cluster-placed, device-placed, field-placed, peripheral-placed, register-placed}
 use Rattle.svd_model.proofs.Trees.{cluster_tree-is}
-use Rattle.svd_model.specs.declared.device.Child.{Child}
-use Rattle.svd_model.specs.declared.device.Child.TheOpen.{Cluster-F}
 use Rattle.svd_model.specs.declared.device.Cluster.{Cluster, out-Cluster}
 use Rattle.svd_model.specs.declared.device.Device.{Device}
 use Rattle.svd_model.specs.declared.device.Field.{Field}
-use Rattle.svd_model.specs.declared.device.Item.{Item}
 use Rattle.svd_model.specs.declared.device.Peripheral.{Peripheral}
 use Rattle.svd_model.specs.declared.device.Register.{Register}
 use Rattle.svd_model.specs.Keys.{Key, rank}
 use Rattle.svd_model.specs.Steps.{Step, set}
 use Rattle.svd_model.specs.Trees.{cluster_places, cluster_tree, device_places, device_tree, field_places, field_tree, field_under, item_under, numbered, peripheral_places, peripheral_tree, peripheral_under, register_places, register_tree, set_tree}
-use Rattle.svd_rows.specs.Forest.{Forest, Tree, siblings}
+use Rattle.svd_rows.specs.Forest.{Tree, siblings}
 use Rattle.svd_rows.specs.Ranks.{IsPlaced, stated}
 use Rattle.svd_schema.specs.declared.container.Container.{Container}
 use Rattle.svd_schema.specs.declared.container.Container.TheVariants as container

@@ -1,5 +1,5 @@
 -- The settings of keys, gathered from the front: what those to come set over what is set already.
-use Rattle.std.proofs.Common.{◌≡◌, ℕ, ◌+◌, ◌<◌, ◌≤◌, List, [], ◌∷◌, ◌++◌, drop, flat_map, get_or, length, refl, sym, ap, ap₂, ◌∙◌}
+use Rattle.std.proofs.Common.{◌≡◌, ℕ, ◌+◌, ◌<◌, ◌≤◌, List, drop, flat_map, get_or, length, sym, ap, ap₂, ◌∙◌}
 use Rattle.std.proofs.lemmas.List.{drop_all}
 use Rattle.patch_model.specs.Acts.{KeyList}
 use Rattle.patch_sem.specs.Settings.{key_set, keys_set, listed, of_place, place_in}

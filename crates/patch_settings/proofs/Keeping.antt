@@ -1,14 +1,12 @@
 -- What is said of an element of a description holds where keys that texts set are set in it.
-use Rattle.std.proofs.Common.{◌≡◌, ℕ, ◌^◌, Bool, true, false, cond, ◌||◌, nat_eq, nat_lt, eqb-true, List, [], ◌∷◌, refl, sym, ap, ap₂, ◌∙◌, subst}
-use Rattle.std.specs.Prelude.{⊤}
+use Rattle.std.proofs.Common.{◌≡◌, ℕ, ◌^◌, Bool, true, false, cond, ◌||◌, nat_eq, nat_lt, eqb-true, List, [], ◌∷◌, refl, sym, ap, ◌∙◌}
 use Rattle.std.specs.List.{AllByRecursion, list_any}
-use Rattle.patch_model.specs.Acts.{KeyList}
 use Rattle.patch_sem.specs.Settings.{container_of, keys_set, keys_with}
 use Rattle.patch_sem.specs.Selecting.{is_patched}
-use Rattle.patch_settings.proofs.KeyForms.{AreGood, IsGood, IsSetAt, keys_set-good}
+use Rattle.patch_settings.proofs.KeyForms.{AreGood, IsSetAt, keys_set-good}
 use Rattle.patch_settings.specs.Places.{fitting}
 use Rattle.patch_settings.specs.Setting.{SettingKeepsElements}
-use Rattle.svd_model.specs.Facts.{HasForm, IsBounded, IsElement, IsIndexed, IsPlacedOrDerived, is_derived, is_offset}
+use Rattle.svd_model.specs.Facts.{HasForm, IsBounded, IsIndexed, IsPlacedOrDerived, is_derived, is_offset}
 use Rattle.svd_model.specs.Keys.{Key, rank, device_name, derived_from, dim_count, dim_increment, dim_index, base_address, at_offset, bit_width, alternate_of, alternate_group, register_size, register_access, reset_value, reset_mask, write_kind, read_action, value_usage, enumerated_value}
 use Rattle.svd_model.specs.Steps.{Kind, Step, peripheral, cluster, register, field, set, value}
 use Rattle.svd_rows.specs.Ranks.{set_key}

@@ -1,5 +1,5 @@
 -- Settings over the keys of an element, where it has places for them.
-use Rattle.std.proofs.Common.{◌≡◌, ℕ, List, [], ◌∷◌, Option, Some, None, option_map, refl, ap, ◌∙◌, unwrap_or}
+use Rattle.std.proofs.Common.{◌≡◌, [], ◌∷◌, Option, Some, None, option_map, refl, ap, ◌∙◌, unwrap_or}
 use Rattle.std.specs.Option.{option_or}
 use Rattle.patch_settings.specs.declared.settings.Settings.{Settings}
 use Rattle.patch_settings.specs.Places.{ArePropsOver, IsDimOver, IsOver, fitting, merged, only, over, places}

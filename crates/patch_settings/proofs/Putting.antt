@@ -1,11 +1,11 @@
 -- A value that is put over one of the settings is its key in its place.
-use Rattle.std.proofs.Common.{◌≡◌, ℕ, List, [], ◌∷◌, Option, Some, None, option_map, refl, sym, ap, ap₂, ◌∙◌}
+use Rattle.std.proofs.Common.{◌≡◌, ℕ, List, Option, Some, None, option_map, refl, sym, ap, ap₂, ◌∙◌}
 use Rattle.std.specs.Option.{option_or}
 use Rattle.pac_base.specs.declared.path.Step.{Step}
 use Rattle.patch_sem.specs.Settings.{listed, of_place, offset_and_width, set_by}
 use Rattle.patch_settings.specs.declared.settings.Settings.{Settings}
 use Rattle.patch_settings.specs.Places.{IsOver, KeyPlaces, placed, places}
-use Rattle.svd_model.specs.Keys.{Key, rank, device_name, derived_from, dim_count, dim_increment, dim_index, base_address, at_offset, bit_width, alternate_of, alternate_group, register_size, register_access, reset_value, reset_mask, write_kind, read_action}
+use Rattle.svd_model.specs.Keys.{rank, device_name, derived_from, dim_count, dim_increment, dim_index, base_address, at_offset, alternate_of, alternate_group, register_size, register_access, reset_value, reset_mask, write_kind, read_action}
 use Rattle.svd_schema.specs.declared.key.Key.{Key as Stated}
 use Rattle.svd_values.specs.declared.index.DimIndex.{DimIndex}
 use Rattle.svd_values.specs.declared.place.Place.{Place}
