@@ -1,8 +1,6 @@
 -- A command in the tree is the command at each of its parents in turn, among the flat rows: for edits that leave no more
 -- elements than there were.
 use Rattle.std.proofs.Common.{◌≡◌, ◌≤◌, ℕ, ◌+◌, Bool, true, false, cond, List, [], ◌∷◌, ◌++◌, map, Option, Some, None, Ok, refl, sym, ap, ap₂, ◌∙◌, subst, append-nil, append_assoc, arith, map-id}
-use Rattle.std.specs.List.{AllByRecursion}
-use Rattle.std.proofs.lemmas.List.{map-append}
 use Rattle.patch_model.specs.Acts.{Order}
 use Rattle.patch_sem.proofs.Outcomes.{both_ok}
 use Rattle.patch_sem.specs.Patching.{acted, applied, applied_at, applied_to, places_of, put_inside, within_limit}
@@ -10,23 +8,16 @@ use Rattle.patch_sem.specs.Selecting.{Rows, kind_at, last_kind, selects}
 use Rattle.patch_sem.specs.Steps.{Outcome, ◌>>=◌}
 use Rattle.patch_edits.proofs.Binds.{bind-assoc, bind-ok, bind-same, given, given_is}
 use Rattle.patch_edits.proofs.Parents.{AllClear, all-clear, applied-append, arranged, arranged-done, clear-append, clear-longer, clear-more, clear-of-one, clear-own, count-tree, kind-longer, nothing_clear, nowhere, paths-append, paths-down, paths_from, whole}
-use Rattle.patch_edits.proofs.Contexts.{Clear, at, at-parts, clear-sibling, clear-siblings, fewer-in, in_limit, inner, inner-node, inside-context, put-context, tree_with, within_path}
+use Rattle.patch_edits.proofs.Contexts.{Clear, at, clear-siblings, fewer-in, in_limit, inner, inside-context, put-context, tree_with}
 use Rattle.patch_edits.specs.Visits.{Below, each, only_if, visited}
-use Rattle.svd_model.proofs.Steps.{same_step-tells}
 use Rattle.svd_model.specs.Counting.{elements_in}
 use Rattle.svd_model.specs.Facts.{element_limit, elements_of, is_counted}
 use Rattle.svd_model.specs.Keys.{Key}
 use Rattle.svd_model.specs.Steps.{Kind, Step, same_step}
-use Rattle.svd_rows.proofs.Counting.{count-rows}
-use Rattle.svd_rows.proofs.Exchanging.{begins-behind, begins-longer, some_pass-agree, some_pass-map, some_pass-weaker}
-use Rattle.svd_rows.proofs.Finding.{map-under_nothing, paths-rows}
-use Rattle.svd_rows.proofs.Standing.{some_pass-own}
-use Rattle.svd_rows.proofs.Passing.{some_pass-append}
+use Rattle.svd_rows.proofs.Finding.{paths-rows}
 use Rattle.svd_rows.specs.Elements.{IsDistinct, count, found, found_in, step_down}
-use Rattle.svd_rows.specs.Forest.{Tree, leaf, node, steps}
+use Rattle.svd_rows.specs.Forest.{leaf, node, steps}
 use Rattle.svd_rows.specs.LookUps.{element_paths}
-use Rattle.svd_rows.specs.Paths.{begins, exactly, is_within}
-use Rattle.svd_rows.specs.RowEdits.{some_pass}
 use Rattle.svd_rows.specs.Rows.{own, rows, under_path}
 
 -- ---- an edit and what it is among the rows

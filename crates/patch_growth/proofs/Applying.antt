@@ -1,5 +1,5 @@
 -- A walk through a device that adds to it leaves what the command leaves of its flat rows, and the description stays one.
-use Rattle.std.proofs.Common.{◌≡◌, ◌≤◌, ℕ, ◌+◌, true, List, map, IfOk, arith, Option, None, Result, Ok, Err, sym, ap, ◌∙◌, inl, inr, subst}
+use Rattle.std.proofs.Common.{◌≡◌, ◌≤◌, ℕ, ◌+◌, true, List, map, IfOk, arith, None, Result, Ok, Err, sym, ap, ◌∙◌, inl, inr, subst}
 use Rattle.patch_model.specs.Acts.{Order, PatternItems}
 use Rattle.patch_sem.specs.declared.fault.PatchFault.{PatchFault}
 use Rattle.patch_sem.specs.Patching.{applied, places_of}
@@ -9,7 +9,7 @@ use Rattle.patch_edits.proofs.Contexts.{tree_with}
 use Rattle.patch_edits.specs.Commands.{IsApplied}
 use Rattle.patch_edits.specs.Visits.{Below}
 use Rattle.patch_growth.proofs.Counted.{visited-fits, visited-rises}
-use Rattle.patch_growth.proofs.Sound.{IsSound, MakesSound, device-sound}
+use Rattle.patch_growth.proofs.Sound.{MakesSound, device-sound}
 use Rattle.patch_growth.proofs.Typed.{IsTyped}
 use Rattle.patch_growth.proofs.Walks.{Agrees, walk-applied}
 use Rattle.patch_growth.specs.Grown.{Grown}

@@ -1,9 +1,9 @@
 -- What is left of the tree of an element below which something was added.
-use Rattle.std.proofs.Common.{◌≡◌, ℕ, Bool, true, ◌&&◌, map, Option, Some, Result, Ok, Err, refl, sym, ap, ap₂, ◌∙◌, subst, inl, inr}
+use Rattle.std.proofs.Common.{◌≡◌, ℕ, Bool, true, map, Option, Some, Result, Ok, Err, refl, sym, ap, ap₂, ◌∙◌, subst, inl, inr}
 use Rattle.glob_select.specs.Matching.{matches}
 use Rattle.patch_model.specs.Acts.{PatternItems}
 use Rattle.patch_sem.specs.declared.fault.PatchFault.{PatchFault}
-use Rattle.patch_sem.specs.Selecting.{is_patched, selects}
+use Rattle.patch_sem.specs.Selecting.{selects}
 use Rattle.patch_sem.specs.Steps.{Outcome}
 use Rattle.patch_edits.proofs.EditedTrees.{item-selected}
 use Rattle.patch_edits.specs.Visits.{Below}
@@ -17,7 +17,7 @@ use Rattle.svd_model.specs.declared.device.Item.{Item, roll-Item}
 use Rattle.svd_model.specs.declared.device.Peripheral.{Peripheral}
 use Rattle.svd_model.specs.declared.device.Register.{Register as RegisterOf}
 use Rattle.svd_model.specs.declared.sibling.Sibling.{Sibling}
-use Rattle.svd_model.proofs.Trees.{child_tree-cluster, child_tree-register, cluster_tree-below, cluster_tree-with_children, item_under-is, item_under-name, item_under-roll}
+use Rattle.svd_model.proofs.Trees.{child_tree-cluster, child_tree-register, cluster_tree-below, cluster_tree-with_children, item_under-is, item_under-roll}
 use Rattle.svd_model.specs.Keys.{Key}
 use Rattle.svd_model.specs.Steps.{Kind, Step, cluster, peripheral, register}
 use Rattle.svd_model.specs.Trees.{child_tree, cluster_tree, item_under, peripheral_places, peripheral_under, register_places, register_tree}

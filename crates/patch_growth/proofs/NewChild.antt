@@ -1,5 +1,5 @@
 -- A new child behind the others in a list of children.
-use Rattle.std.proofs.Common.{◌≡◌, ◌⊎◌, ◌≤◌, ◌<◌, ℕ, ◌+◌, ◌^◌, ◌-◌, min, Bool, true, false, cond, not, ◌&&◌, ◌||◌, nat_eq, nat_le, List, [], ◌∷◌, ◌++◌, map, MatchResult, Option, Some, Result, Ok, Err, refl, sym, ap, ap₂, ◌∙◌, subst, inl, inr, arith}
+use Rattle.std.proofs.Common.{◌≡◌, ◌⊎◌, ◌≤◌, ◌<◌, ℕ, ◌+◌, ◌-◌, Bool, true, false, cond, not, ◌&&◌, ◌||◌, nat_eq, nat_le, List, [], ◌∷◌, ◌++◌, map, MatchResult, Option, Result, Ok, Err, refl, sym, ap, ap₂, ◌∙◌, subst, inl, inr, arith}
 use Rattle.std.proofs.lemmas.Bool.{or_parts}
 use Rattle.std.proofs.lemmas.Bool.Decides.{nat_tests}
 use Rattle.std.proofs.lemmas.List.{map-append}
@@ -30,7 +30,7 @@ use Rattle.svd_model.specs.Trees.{child_tree, item_under, step_of}
 use Rattle.svd_rows.proofs.Lists.{map-map}
 use Rattle.svd_rows.proofs.Siblings.{siblings-append, steps-siblings}
 use Rattle.svd_rows.specs.Elements.{count}
-use Rattle.svd_rows.specs.Forest.{Tree, join, leaf, node, siblings, steps}
+use Rattle.svd_rows.specs.Forest.{Tree, join, siblings, steps}
 
 -- ---- counts
 

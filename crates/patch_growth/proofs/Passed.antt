@@ -1,5 +1,5 @@
 -- Siblings in a list below which something is added, from the front: what is passed, and what is still to come.
-use Rattle.std.proofs.Common.{◌≡◌, ◌⊎◌, ◌≤◌, ℕ, ◌+◌, Bool, List, [], ◌∷◌, ◌++◌, map, take, drop, set, length, slice_get, Some, Ok, Err, refl, sym, ap, ap₂, ◌∙◌, inl, inr, arith, Result, IsErrAnd}
+use Rattle.std.proofs.Common.{◌≡◌, ◌⊎◌, ◌≤◌, ℕ, ◌+◌, Bool, List, [], ◌∷◌, map, take, drop, set, length, slice_get, Some, Ok, Err, refl, sym, ap, ap₂, ◌∙◌, inl, inr, arith, Result, IsErrAnd}
 use Rattle.std.proofs.lemmas.List.{drop_all, drop_more, drop-set-lt, map-append, take_all, take_more_set}
 use Rattle.std.proofs.lemmas.Option.{get_or_from_slice_get, slice_get_within}
 use Rattle.patch_sem.specs.declared.fault.PatchFault.{PatchFault}
@@ -12,7 +12,7 @@ use Rattle.patch_growth.specs.Grown.{Grown}
 use Rattle.patch_growth.specs.Growths.{Tally, each, only_if}
 use Rattle.svd_model.specs.Keys.{Key}
 use Rattle.svd_model.specs.Steps.{Kind, Step}
-use Rattle.svd_rows.specs.Forest.{Tree, leaf, node, join, siblings}
+use Rattle.svd_rows.specs.Forest.{Tree, node, join, siblings}
 
 -- the front is passed, and the rest decides
 abbrev pub Passed : {A : Type 0} → (Step → Bool) → (Kind → ℕ → Below → Outcome Tally) → (A → Step × Tree Step Key) → ℕ → List A → ℕ → List A → ℕ → Type 0

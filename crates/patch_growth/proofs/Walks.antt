@@ -1,12 +1,12 @@
 -- A command that adds to the tree is the command at each of its parents in turn, among the flat rows.
-use Rattle.std.proofs.Common.{◌≡◌, ◌≤◌, ℕ, ◌+◌, Bool, true, false, cond, not, nat_le, List, [], ◌∷◌, ◌++◌, map, Option, Some, None, Ok, Err, refl, sym, ap, ap₂, ◌∙◌, subst, append-nil, append_assoc, arith, map-id}
+use Rattle.std.proofs.Common.{◌≡◌, ℕ, ◌+◌, Bool, true, false, cond, not, nat_le, List, [], ◌∷◌, ◌++◌, map, Option, Some, None, Ok, refl, sym, ap, ap₂, ◌∙◌, subst, append-nil, append_assoc, arith, map-id}
 use Rattle.patch_model.specs.Acts.{Order}
 use Rattle.patch_sem.specs.declared.fault.PatchFault.TheVariants.{TooMany}
 use Rattle.patch_sem.specs.Patching.{acted, applied, applied_at, applied_to, places_of, put_inside, within_limit}
 use Rattle.patch_sem.specs.Selecting.{Rows, kind_at, last_kind, selects}
 use Rattle.patch_sem.specs.Steps.{Outcome, ◌>>=◌, refused_if}
 use Rattle.patch_edits.proofs.Binds.{bind-assoc, bind-ok, bind-same}
-use Rattle.patch_edits.proofs.Contexts.{Clear, at, clear-siblings, context-sum, inner, inside-context, put-context, tree_with}
+use Rattle.patch_edits.proofs.Contexts.{Clear, at, clear-siblings, inner, inside-context, put-context, tree_with}
 use Rattle.patch_edits.proofs.Parents.{AllClear, all-clear, applied-append, arranged, arranged-done, clear-append, clear-longer, clear-more, clear-of-one, clear-own, count-tree, kind-longer, nothing_clear, nowhere, paths-append, paths-down, paths_from, whole}
 use Rattle.patch_edits.specs.Visits.{Below}
 use Rattle.patch_growth.proofs.Counted.{given_is, recounted, visited-rises}
@@ -20,7 +20,7 @@ use Rattle.svd_model.specs.Steps.{Kind, Step, same_step}
 use Rattle.svd_rows.proofs.Facts.{count-join}
 use Rattle.svd_rows.proofs.Finding.{paths-rows}
 use Rattle.svd_rows.specs.Elements.{IsDistinct, found, found_in, step_down}
-use Rattle.svd_rows.specs.Forest.{Tree, join, leaf, node, steps}
+use Rattle.svd_rows.specs.Forest.{join, leaf, node, steps}
 use Rattle.svd_rows.specs.LookUps.{element_paths}
 use Rattle.svd_rows.specs.Rows.{own, rows, under_path}
 

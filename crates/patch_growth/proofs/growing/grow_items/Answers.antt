@@ -1,4 +1,4 @@
-use Rattle.std.proofs.Common.{Some, List, inl, inr, map, refl, subst, sym, ap, ◌∙◌}
+use Rattle.std.proofs.Common.{Some, List, inl, inr, map, subst, sym, ap, ◌∙◌}
 use Rattle.std.specs.List.{list_any}
 use Rattle.std.specs.Str.{bytes_eq}
 use Rattle.patch_growth.proofs.NewChild.{carried, child-counted, closes, item-made, item-named, name-taken, none-made, one-behind, put-there, there-already, too-many, with_new}

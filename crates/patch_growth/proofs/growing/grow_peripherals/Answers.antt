@@ -1,4 +1,4 @@
-use Rattle.std.proofs.Common.{None, List, inl, inr, map, refl, subst, sym, ap, ◌∙◌}
+use Rattle.std.proofs.Common.{None, inl, inr, map, refl, subst, sym, ap, ◌∙◌}
 use Rattle.std.specs.List.{list_any}
 use Rattle.std.specs.Str.{bytes_eq}
 use Rattle.patch_sem.specs.Selecting.{is_named}
