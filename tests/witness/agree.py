@@ -34,7 +34,6 @@ EACH = 50
 UNPRINTED = {
     "patches": lambda files: "patch" in files,
     "derived elements": lambda files: "derivedFrom" in files["svd"],
-    "arrays of fields": lambda files: re.search(r"<field\b[^>]*>(?:(?!</field>).)*\[%s\]", files["svd"], re.S),
 }
 
 MAIN = """
