@@ -1,20 +1,15 @@
 -- The steps of typing, one word after the other.
 use Rattle.std.proofs.Common.{◌≡◌, ℕ, Bool, true, false, ◌||◌, List, [], ◌∷◌, map, find, is_some, length, arith, Option, Some, None, Ok, Err, option_map, refl, sym, ap, ◌∙◌, if◌then◌else◌}
 use Rattle.std.specs.Prelude.{ok_or}
-use Rattle.std.specs.Borrow.{Bor}
 use Rattle.std.specs.List.{list_any}
 use Rattle.std.specs.Str.{bytes_eq}
-use Rattle.frag_sem.specs.Modules.{beside, modules_of, same_element}
+use Rattle.frag_sem.specs.Modules.{top_block}
 use Rattle.frag_sem.specs.CallPlaces.{slot_named}
 use Rattle.frag_sem.specs.PlaceTyping.{inner_named, slot_module, steps_lead}
 use Rattle.frag_sem.specs.ProxyTypes.{readers_of, writers_of}
 use Rattle.frag_sem.specs.ScriptTyping.{Names, ScriptKind, Typed, ◌>>=◌, argument_types, chain_types, index_types, just, link_types, name_of, no_such_call, read_call, source_type, value_types, write_call}
 use Rattle.frag_sem.specs.Surfaces.{ReadCall, ReadField, RegisterCalls, ValueType, WriteCall, WriteField, number}
 use Rattle.frag_sem.specs.TextSurface.{read_calls, read_field, register_calls, write_calls, write_field}
-use Rattle.frag_tree.specs.declared.block.Element.{Element}
-use Rattle.frag_tree.specs.declared.block.Block.{Block}
-use Rattle.frag_tree.specs.declared.block.Module.{Module}
-use Rattle.frag_tree.specs.declared.krate.Crate.{Crate}
 use Rattle.frag_tree.specs.declared.krate.Slot.{Slot}
 use Rattle.frag_tree.specs.declared.register.Reader.{Reader}
 use Rattle.frag_tree.specs.declared.register.RegisterModule.{RegisterModule}
@@ -24,9 +19,7 @@ use Rattle.frag_tree.specs.declared.statement.Link.{Link}
 use Rattle.frag_tree.specs.declared.statement.Link.TheVariants as link
 use Rattle.frag_tree.specs.declared.statement.Source.TheVariants as source
 use Rattle.frag_tree.specs.declared.statement.Value.{Value}
-use Rattle.frag_tree.specs.Trees.{ModuleTree, block_tree, crate_tree, in_line, module_tree, one_block, one_register}
-use Rattle.frag_tree.proofs.Trees.{block_tree-is}
-use Rattle.frag_types.specs.Elements.{element_of}
+use Rattle.frag_tree.specs.Trees.{CrateTree, ModuleTree, one_block}
 use Rattle.frag_types.specs.Fields.{given, read_count, read_type, taken, write_count, write_type}
 use Rattle.frag_types.specs.Telling.{step_leads}
 
@@ -52,54 +45,13 @@ is-mapped f (Some x) = refl
 pub is-there : {A B : Type 0} (f : A → B) (o : Option A) (p : Option B) → option_map f o ≡ p → is_some o ≡ is_some p
 is-there f o p same = sym (is-mapped f o) ∙ ap is_some same
 
-blocks-found : (blocks : List Block) (name : List ℕ) → option_map block_tree (find (λ unit. bytes_eq name unit.name) blocks) ≡ find (λ unit. bytes_eq name unit.head.name) (map block_tree blocks)
-blocks-found [] name = refl
-blocks-found (unit ∷ others) name =
-    by (bytes_eq name unit.name) (blocks-found others name)
-    ∙ ap (λ own. if bytes_eq name own then Some (block_tree unit) else find (λ unit. bytes_eq name unit.head.name) (map block_tree others)) (sym (ap (λ tree. tree.head.name) (block_tree-is unit)))
-  where
-    by : (b : Bool) → option_map block_tree (find (λ unit. bytes_eq name unit.name) others) ≡ find (λ unit. bytes_eq name unit.head.name) (map block_tree others)
-        → option_map block_tree (if b then Some unit else find (λ unit. bytes_eq name unit.name) others) ≡ (if b then Some (block_tree unit) else find (λ unit. bytes_eq name unit.head.name) (map block_tree others))
-    by true more = refl
-    by false more = more
+pub slot-leads : (krate : CrateTree) (name : List ℕ) (slot : Slot) (found : Option ModuleTree) → slot_named name krate.slots ≡ Some slot → found ≡ option_map one_block (top_block slot.block krate.blocks) → found ≡ slot_module krate name
+slot-leads krate name slot found is top = rw is top
 
-pub slot-leads : (krate : Crate) (name : List ℕ) (found : Option (Bor Block)) (slot : Slot) (block : List ℕ) (blocks : List Block)
-    → slot_named name krate.slots ≡ Some slot → block ≡ slot.block → blocks ≡ krate.blocks.items → option_map (λ (unit : Bor Block). unit.now) found ≡ find (λ unit. bytes_eq block unit.name) blocks
-    → option_map (λ (unit : Bor Block). one_block (block_tree unit.now)) found ≡ slot_module (crate_tree krate) name
-unfolding crate_tree
-slot-leads krate name found slot block blocks is named all leads =
-    rw is (through found
-    ∙ (ap (λ o. option_map one_block (option_map block_tree o)) (leads ∙ (ap (find (λ unit. bytes_eq block unit.name)) all ∙ ap (λ name. find (λ unit. bytes_eq name unit.name) krate.blocks.items) named))
-    ∙ ap (option_map one_block) (blocks-found krate.blocks.items slot.block)))
-  where
-    through : (o : Option (Bor Block)) → option_map (λ (unit : Bor Block). one_block (block_tree unit.now)) o ≡ option_map one_block (option_map block_tree (option_map (λ (unit : Bor Block). unit.now) o))
-    through None = refl
-    through (Some unit) = refl
-
-pub slot-missing : (krate : Crate) (name : List ℕ) → slot_named name krate.slots ≡ None → None ≡ slot_module (crate_tree krate) name
-unfolding crate_tree
+pub slot-missing : (krate : CrateTree) (name : List ℕ) → slot_named name krate.slots ≡ None → None ≡ slot_module krate name
 slot-missing krate name is = rw is refl
 
 -- ---- places
-
--- the modules of a parent, of which the first is no module of the element
-pub module-passed : (wanted : Element) (all others : List Module) (first : Module) → all ≡ first ∷ others → same_element wanted (element_of (module_tree first)) ≡ false
-    → beside wanted (modules_of (in_line (map module_tree others))) ≡ beside wanted (modules_of (in_line (map module_tree all)))
-unfolding in_line modules_of
-module-passed wanted all others first is other = rw is (by (module_tree first) other)
-  where
-    by : (tree : ModuleTree) → same_element wanted (element_of tree) ≡ false → beside wanted (modules_of (in_line (map module_tree others))) ≡ beside wanted (modules_of (in_line (tree ∷ map module_tree others)))
-    by (one_register unit) e = rw e refl
-    by (one_block unit) e = rw e refl
-
-pub module-found : (wanted : Element) (all others : List Module) (first : Module) → all ≡ first ∷ others → same_element wanted (element_of (module_tree first)) ≡ true
-    → Some (module_tree first) ≡ beside wanted (modules_of (in_line (map module_tree all)))
-unfolding in_line modules_of
-module-found wanted all others first is same = rw is (by (module_tree first) same)
-  where
-    by : (tree : ModuleTree) → same_element wanted (element_of tree) ≡ true → Some tree ≡ beside wanted (modules_of (in_line (tree ∷ map module_tree others)))
-    by (one_register unit) e = rw e refl
-    by (one_block unit) e = rw e refl
 
 -- one word behind the other, and then what stands behind both
 then-then : {A B C : Type 0} (first : Typed A) (second : A → Typed (Unit {0})) (f : A → B) (last : B → Typed C)
@@ -114,11 +66,6 @@ then-then (Err kind) second f last = refl
 steps-first : (unit : ModuleTree) (step : Call) (others : List Call) → steps_lead unit (step ∷ others) ≡ (step_leads unit step >>= λ inner. steps_lead inner others)
 unfolding step_leads steps_lead
 steps-first unit step others = sym (then-then (ok_or (inner_named unit step.name) no_such_call) (λ inner. index_types inner.count step.index) (λ inner. inner.tree) (λ inner. steps_lead inner others))
-
--- no module is left
-pub module-missing : (wanted : Element) (all : List Module) → length all ≡ 0 → None ≡ beside wanted (modules_of (in_line (map module_tree all)))
-unfolding in_line modules_of
-module-missing wanted all is = rw (none-left all is) refl
 
 pub steps-more : (unit inner : ModuleTree) (all others : List Call) (step : Call) → all ≡ step ∷ others → step_leads unit step ≡ Ok inner → steps_lead inner others ≡ steps_lead unit all
 steps-more unit inner all others step is leads = sym (ap (steps_lead unit) is ∙ (steps-first unit step others ∙ ap (λ (t : Typed ModuleTree). t >>= λ inner. steps_lead inner others) leads))

@@ -1,6 +1,5 @@
 pub mod Refusals
 pub mod Held
-pub mod Elements
 pub mod Proxies
 pub mod Fields
 pub mod Lines

@@ -4,7 +4,7 @@ use Rattle.std.specs.Borrow.{Bor}
 use Rattle.std.specs.List.{list_any}
 use Rattle.std.specs.Str.{bytes_eq}
 use Rattle.frag_script.specs.declared.fault.ScriptTyping.{ScriptTyping}
-use Rattle.frag_sem.specs.PlaceTyping.{Inner, call_leads, inner_named, module_scope}
+use Rattle.frag_sem.specs.PlaceTyping.{call_leads, inner_named, module_scope}
 use Rattle.frag_sem.specs.ScriptTyping.{Names, Scope, Typed, ◌>>=◌, Wanted, anything, just, can_modify, can_read, can_write, chain_types, holds_or, index_types, name_of, names_within, no_such_call, reader_name, rebound, writer_name}
 use Rattle.frag_sem.specs.Surfaces.{RegisterCalls, number, truth}
 use Rattle.frag_sem.specs.Surfaces.{ValueType as SurfaceType}
@@ -15,11 +15,8 @@ use Rattle.frag_tree.specs.declared.statement.Link.{Link}
 use Rattle.frag_tree.specs.declared.statement.Place.{Place}
 use Rattle.frag_tree.specs.declared.statement.Statement.{Statement}
 use Rattle.frag_tree.specs.declared.statement.Statement.TheVariants as statement
-use Rattle.frag_tree.specs.Trees.{CrateTree, ModuleTree, block_tree, one_block, one_register}
+use Rattle.frag_tree.specs.Trees.{CrateTree, ModuleTree}
 use Rattle.frag_types.specs.Refusals.{script_kind}
-use Rattle.frag_types.specs.declared.at.At.{At}
-use Rattle.frag_types.specs.declared.at.At.TheVariants as at
-use Rattle.frag_types.specs.declared.at.Behind.{Behind}
 use Rattle.frag_types.specs.declared.names.Names.{Names as NamesHeld}
 use Rattle.frag_types.specs.declared.place.Use.{Use}
 use Rattle.frag_types.specs.declared.place.Use.TheVariants as used
@@ -52,15 +49,6 @@ abbrev pub allowed : Use → RegisterCalls → Bool
 allowed used.Read = can_read
 allowed used.Write = can_write
 allowed used.Modify = can_modify
-
--- a module that is lent, as its tree
-abbrev pub at_tree : At → ModuleTree
-at_tree (at.Register unit) = one_register unit.now
-at_tree (at.Block unit) = one_block (block_tree unit.now)
-
--- a module behind an accessor
-abbrev pub inner_seen : Behind → Inner
-inner_seen behind = record { count = behind.count; tree = at_tree behind.unit }
 
 -- one accessor of a place
 unfoldable pub step_leads : ModuleTree → Call → Typed ModuleTree

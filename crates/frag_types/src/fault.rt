@@ -31,7 +31,9 @@ pub enum CrateTyping {
     DoubleName,
     /// An accessor's body is of another type, a constant of another width, or a direction is missing.
     WrongType,
-    /// A count is 0, or a number doesn't fit its type.
+    /// A count is 0; a constant or the literal of a value doesn't fit its type; a reader's shift isn't below the bits
+    /// of the register, or its mask passes them; or a writer's field ends past the register, or its width isn't 1 to
+    /// the bits of its value type.
     LiteralRange,
     /// A block or the end of a register passes 2^64 bytes.
     TooLarge,

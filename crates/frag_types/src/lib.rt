@@ -4,7 +4,6 @@
 // fails.
 #![tactic(auto)]
 
-mod at;
 mod chain;
 mod fault;
 mod field;

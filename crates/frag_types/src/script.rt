@@ -1,4 +1,5 @@
 ghost use Rattle.std.specs.Prelude.{◌≡◌, IfOk, IfErr, None, [], option_map};
+ghost use Rattle.frag_index.specs.Sites.{IsIndex};
 ghost use Rattle.frag_sem.specs.PlaceTyping.{module_fault, module_scope};
 ghost use Rattle.frag_sem.specs.ScriptTyping.{lines_fault, script_fault};
 ghost use Rattle.frag_sem.specs.TextSurface.{text_surface};
@@ -9,6 +10,7 @@ ghost use Rattle.frag_types.specs.Lines.{fault_seen};
 use crate::named::Named;
 use crate::statement::{bind, statement_types};
 use crate::typed::{TypedCrate, TypedScript};
+use frag_index::Index;
 use frag_script::{ScriptFault, ScriptTyping};
 use frag_tree::{Crate, Script};
 use pac_base::{Back, NoMemory};
@@ -24,15 +26,16 @@ pub(crate) struct Unfit {
 /// The first line of a script that doesn't type.
 fn first_unfit<'a>(
     alloc: Global,
-    krate: &'a Crate,
+    index: &Index<'a>,
     script: &'a Script,
 ) -> Result<Option<Unfit>, NoMemory>
-    ensures { IfOk result (λ unfit. option_map fault_seen unfit ≡ module_fault (crate_tree krate.now) script.now) }
+    requires { IsIndex index.now }
+    ensures { IfOk result (λ unfit. option_map fault_seen unfit ≡ module_fault (crate_tree index.now.krate.now) script.now) }
 {
     let mut bound = Named::new(alloc);
     let mut rest = script.lines.as_slice();
     while let Some((first, others)) = rest.split_first() {
-        match statement_types(krate, &bound, &first.statement) {
+        match statement_types(index, &bound, &first.statement) {
             Ok(read) => bind(&mut bound, &first.statement, read)?,
             Err(kind) => {
                 return Ok(Some(Unfit {
@@ -44,6 +47,14 @@ fn first_unfit<'a>(
         rest = others;
     }
     Ok(None)
+}
+
+/// The first line of a script that doesn't type, against the index of a crate that is made for it.
+fn unfit_line(alloc: Global, krate: &Crate, script: &Script) -> Result<Option<Unfit>, NoMemory>
+    ensures { IfOk result (λ unfit. option_map fault_seen unfit ≡ module_fault (crate_tree krate.now) script.now) }
+{
+    let index = Index::new(alloc, krate)?;
+    first_unfit(alloc, &index, script)
 }
 
 /// The script as one that fits the crate: each of its statements types against the surface of the crate.
@@ -59,7 +70,7 @@ pub fn type_script(
     ensures kept { IfErr result (λ back. back.state ≡ script) }
     ensures fault { IfErr result (λ back. IsScriptRefusal (script_fault (text_surface (crate_tree krate.now)) script) back.fault) }
 {
-    match first_unfit(alloc, krate.krate(), &script) {
+    match unfit_line(alloc, krate.krate(), &script) {
         Ok(None) => Ok(TypedScript::new(script)),
         Ok(Some(unfit)) => Err(Back {
             state: script,

@@ -2,6 +2,7 @@ ghost use Rattle.std.specs.Prelude.{◌≡◌, ℕ, IfOk, List};
 ghost use Rattle.std.specs.Borrow.{Bor};
 ghost use Rattle.std.specs.List.{list_any};
 ghost use Rattle.std.specs.Str.{bytes_eq};
+ghost use Rattle.frag_index.specs.Sites.{IsIndex};
 ghost use Rattle.frag_sem.specs.PlaceTyping.{call_leads, module_scope};
 ghost use Rattle.frag_sem.specs.ScriptTyping.{anything, names_within, Names as Bindings, statement_types, value_types};
 ghost use Rattle.frag_sem.specs.TextSurface.{register_calls};
@@ -17,8 +18,9 @@ use crate::names::{Names, is_reader, is_writer};
 use crate::place::{Use, call_leads, is_slot};
 use crate::value::value_types;
 use crate::value_type::Wanted;
+use frag_index::Index;
 use frag_script::ScriptTyping;
-use frag_tree::{Crate, Link, Place, RegisterModule, Statement, Value};
+use frag_tree::{Link, Place, RegisterModule, Statement, Value};
 use pac_base::NoMemory;
 
 /// The names that are bound, each with the register that it read.
@@ -31,25 +33,27 @@ fn is_bound(bound: &Bound<'_>, name: &[u8]) -> bool
 }
 
 /// Whether a name is bound, a slot, `r` or `w`.
-fn is_taken(krate: &Crate, bound: &Bound<'_>, name: &[u8]) -> bool
-    ensures { result ≡ is_taken (module_scope (crate_tree krate.now)) (names_in bound.now) name.now }
+fn is_taken(index: &Index<'_>, bound: &Bound<'_>, name: &[u8]) -> bool
+    requires { IsIndex index.now }
+    ensures { result ≡ is_taken (module_scope (crate_tree index.now.krate.now)) (names_in bound.now) name.now }
 {
-    is_bound(bound, name) || (is_slot(krate, name) || (is_reader(name) || is_writer(name)))
+    is_bound(bound, name) || (is_slot(index, name) || (is_reader(name) || is_writer(name)))
 }
 
 /// The register that a `let` reads, if it may bind the name.
 fn let_leads<'a>(
-    krate: &'a Crate,
+    index: &Index<'a>,
     bound: &Bound<'a>,
     name: &[u8],
     place: &Place,
 ) -> Result<&'a RegisterModule, ScriptTyping>
-    ensures { told (λ unit. unit.now) result ≡ let_leads (crate_tree krate.now) (names_in bound.now) name.now place.now }
+    requires { IsIndex index.now }
+    ensures { told (λ unit. unit.now) result ≡ let_leads (crate_tree index.now.krate.now) (names_in bound.now) name.now place.now }
 {
-    if is_taken(krate, bound, name) {
+    if is_taken(index, bound, name) {
         Err(ScriptTyping::Rebound)
     } else {
-        call_leads(krate, Use::Read, place)
+        call_leads(index, Use::Read, place)
     }
 }
 
@@ -62,16 +66,17 @@ fn reader_within<'a>(names_reader: bool, unit: &'a RegisterModule) -> Option<&'a
 /// A chain on the register at the end of a place.
 #[tactic(auto, unfolding(crate::specs::Telling::chain_leads))]
 fn chain_leads<'a>(
-    krate: &'a Crate,
+    index: &Index<'a>,
     bound: &Bound<'a>,
     used: Use,
     place: &Place,
     names_reader: bool,
     chain: &[Link],
 ) -> Result<(), ScriptTyping>
-    ensures { told_held result ≡ chain_leads (crate_tree krate.now) (names_in bound.now) (allowed used) place.now names_reader chain.now }
+    requires { IsIndex index.now }
+    ensures { told_held result ≡ chain_leads (crate_tree index.now.krate.now) (names_in bound.now) (allowed used) place.now names_reader chain.now }
 {
-    match call_leads(krate, used, place) {
+    match call_leads(index, used, place) {
         Ok(unit) => {
             let read = reader_within(names_reader, unit);
             chain_types(&Names { bound, read }, unit, chain)
@@ -81,10 +86,11 @@ fn chain_leads<'a>(
 }
 
 /// A call without a chain.
-fn register_leads(krate: &Crate, used: Use, place: &Place) -> Result<(), ScriptTyping>
-    ensures { told_held result ≡ alone (call_leads (allowed used) (crate_tree krate.now) place.now) }
+fn register_leads(index: &Index<'_>, used: Use, place: &Place) -> Result<(), ScriptTyping>
+    requires { IsIndex index.now }
+    ensures { told_held result ≡ alone (call_leads (allowed used) (crate_tree index.now.krate.now) place.now) }
 {
-    match call_leads(krate, used, place) {
+    match call_leads(index, used, place) {
         Ok(_) => Ok(()),
         Err(kind) => Err(kind),
     }
@@ -122,33 +128,34 @@ fn binding_nothing<'a>(
 
 /// A statement types; that of a `let` with the register that its name reads.
 pub(crate) fn statement_types<'a>(
-    krate: &'a Crate,
+    index: &Index<'a>,
     bound: &Bound<'a>,
     statement: &Statement,
 ) -> Result<Option<&'a RegisterModule>, ScriptTyping>
-    ensures { told (bound_behind (names_in bound.now) statement.now) result ≡ statement_types (module_scope (crate_tree krate.now)) (names_in bound.now) statement.now }
+    requires { IsIndex index.now }
+    ensures { told (bound_behind (names_in bound.now) statement.now) result ≡ statement_types (module_scope (crate_tree index.now.krate.now)) (names_in bound.now) statement.now }
 {
     match statement {
-        Statement::Let { name, place } => binding(let_leads(krate, bound, name.bytes(), place)),
+        Statement::Let { name, place } => binding(let_leads(index, bound, name.bytes(), place)),
         Statement::Write { place, chain } => {
-            binding_nothing(chain_leads(krate, bound, Use::Write, place, false, chain.as_slice()))
+            binding_nothing(chain_leads(index, bound, Use::Write, place, false, chain.as_slice()))
         }
         Statement::WriteWithZero { place, chain } => {
-            binding_nothing(chain_leads(krate, bound, Use::Write, place, false, chain.as_slice()))
+            binding_nothing(chain_leads(index, bound, Use::Write, place, false, chain.as_slice()))
         }
         Statement::Modify {
             place,
             names_reader,
             chain,
         } => binding_nothing(chain_leads(
-            krate,
+            index,
             bound,
             Use::Modify,
             place,
             *names_reader,
             chain.as_slice(),
         )),
-        Statement::Reset { place } => binding_nothing(register_leads(krate, Use::Write, place)),
+        Statement::Reset { place } => binding_nothing(register_leads(index, Use::Write, place)),
         Statement::Say { value } => binding_nothing(said(bound, value)),
     }
 }

@@ -6,7 +6,7 @@ use Rattle.frag_types.specs.Telling.{names_in}
 use Rattle.frag_types.proofs.script.first_unfit.Given as goal
 
 abbrev pub invariant-loop-first : goal.invariant-loop-first
-invariant-loop-first l = lines_fault (module_scope (crate_tree l.fn.krate)) l.rest (names_in l.bound) ≡ module_fault (crate_tree l.fn.krate) l.fn.script
+invariant-loop-first l = lines_fault (module_scope (crate_tree l.fn.index.krate.now)) l.rest (names_in l.bound) ≡ module_fault (crate_tree l.fn.index.krate.now) l.fn.script
 
 abbrev pub decreases-loop-first : goal.decreases-loop-first
 decreases-loop-first l = length l.rest
