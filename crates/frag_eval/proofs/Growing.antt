@@ -4,8 +4,8 @@ use Rattle.std.specs.Prelude.{if◌then◌else◌}
 use Rattle.std.specs.Map.{lookup}
 use Rattle.std.proofs.lemmas.List.{append-nil}
 use Rattle.pac_base.specs.Widths.{bits_of}
-use Rattle.frag_layout.specs.declared.place.Found.{Found}
-use Rattle.frag_layout.specs.Walks.{found_seen}
+use Rattle.frag_index.specs.declared.place.Found.{Found}
+use Rattle.frag_index.specs.Walks.{found_seen}
 use Rattle.frag_tree.specs.declared.script.ScriptLine.{ScriptLine}
 use Rattle.frag_tree.specs.declared.statement.Link.{Link}
 use Rattle.frag_tree.specs.declared.statement.Place.{Place}

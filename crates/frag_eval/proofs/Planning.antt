@@ -13,7 +13,7 @@ use Rattle.pac_bus.specs.Answers.{Readies}
 use Rattle.pac_bus.specs.Telling.{BusTold, Did}
 use Rattle.pac_bus.specs.declared.access.Preset.{Preset}
 use Rattle.pac_bus.proofs.Acting.{did_nothing, did_then}
-use Rattle.frag_layout.specs.Walks.{StartsBelow}
+use Rattle.frag_index.specs.Walks.{StartsBelow}
 use Rattle.frag_tree.specs.declared.krate.Crate.{Crate}
 use Rattle.frag_tree.specs.declared.script.Script.{Script}
 use Rattle.frag_tree.specs.declared.statement.Place.{Place}

@@ -1,7 +1,7 @@
 -- How a script in plain numbers grows by a line (this project's own rule).
 use Rattle.std.specs.Prelude.{ℕ, ◌≡◌, ◌≤◌, ◌+◌, List, [], ◌∷◌, ◌++◌, length, Option, option_and_then}
-use Rattle.frag_layout.specs.declared.place.Found.{Found}
-use Rattle.frag_layout.specs.Walks.{found_seen}
+use Rattle.frag_index.specs.declared.place.Found.{Found}
+use Rattle.frag_index.specs.Walks.{found_seen}
 use Rattle.frag_tree.specs.declared.script.Script.{Script}
 use Rattle.frag_tree.specs.declared.script.ScriptLine.{ScriptLine}
 use Rattle.frag_tree.specs.declared.statement.Statement.{Statement}

@@ -1,5 +1,5 @@
 ghost use Rattle.std.specs.Prelude.{◌≡◌, ◌∷◌, [], Some, None, IfOk, option_map, if◌then◌else◌};
-ghost use Rattle.frag_layout.specs.Walks.{found_seen};
+ghost use Rattle.frag_index.specs.Walks.{found_seen};
 ghost use Rattle.frag_sem.specs.Meaning.{let_outcome, modify_outcome, reset_outcome, say_outcome, write_outcome};
 ghost use Rattle.frag_sem.specs.TextMeaning.{one_to_modify, started, zero_to_modify};
 ghost use Rattle.frag_eval.specs.declared.role.Role.TheVariants as role;
@@ -11,7 +11,7 @@ use crate::put::chain_puts;
 use crate::role::Role;
 use crate::term::operand;
 use crate::word::start_word;
-use frag_layout::Found;
+use frag_index::Found;
 use frag_tree::{Identifier, Link, RegisterModule, ScriptLine, Statement, Value};
 use pac_base::NoMemory;
 use std::alloc::Global;

@@ -13,7 +13,7 @@ use crate::deed::Deed;
 use crate::preset::{called_presets, set_all};
 use crate::ready::Ready;
 use crate::script::lower_script;
-use frag_layout::lay_out;
+use frag_index::Index;
 use frag_tree::{Crate, Events, Script};
 use frag_types::{TypedCrate, TypedScript};
 use pac_base::{Back, NoMemory};
@@ -46,9 +46,9 @@ fn plan_of(alloc: Global, krate: &Crate, script: &Script) -> Result<Plan, NoMemo
     requires { CrateFits (crate_tree krate.now) }
     ensures { IfOk result (λ plan. IsPlan (crate_tree krate.now) script.now plan) }
 {
-    let layouts = lay_out(alloc, krate)?;
-    let deeds = lower_script(alloc, krate, &layouts, script)?;
-    let presets = called_presets(alloc, krate, &layouts, script)?;
+    let index = Index::new(alloc, krate)?;
+    let deeds = lower_script(alloc, &index, script)?;
+    let presets = called_presets(alloc, &index, script)?;
     let words = Vec::with_capacity(alloc, deeds.len())?;
     let made = room_for(alloc, deeds.len())?;
     Ok(Plan {

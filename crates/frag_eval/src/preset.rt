@@ -1,7 +1,7 @@
 ghost use Rattle.std.specs.Prelude.{◌≡◌, ◌++◌, IfOk, map, option_map};
 ghost use Rattle.std.specs.List.{AllByRecursion};
-ghost use Rattle.frag_layout.specs.Layouts.{AreLaid};
-ghost use Rattle.frag_layout.specs.Walks.{StartsBelow, found_seen};
+ghost use Rattle.frag_index.specs.Sites.{IsIndex};
+ghost use Rattle.frag_index.specs.Walks.{StartsBelow, found_seen};
 ghost use Rattle.frag_sem.specs.CallPlaces.{register_at};
 ghost use Rattle.frag_sem.specs.TextMeaning.{text_presets};
 ghost use Rattle.frag_tree.specs.Trees.{crate_tree};
@@ -10,8 +10,8 @@ ghost use Rattle.frag_eval.specs.Called.{AddsPlace, IsHeld, SetsAll, preset_at, 
 
 use crate::keys::{PlaceKey, take};
 use crate::script::called;
-use frag_layout::{Found, Layouts, register_at};
-use frag_tree::{Crate, Place, Script};
+use frag_index::{Found, Index, register_at};
+use frag_tree::{Place, Script};
 use indexmap::IndexSet;
 use pac_base::NoMemory;
 use pac_bus::{Bus, Preset};
@@ -44,18 +44,17 @@ fn add_preset(found: Option<Found<'_>>, presets: &mut Vec<Preset>) -> Result<(),
 /// Takes a place in that is called, unless it was called before.
 fn add_place<'a>(
     alloc: Global,
-    krate: &Crate,
-    layouts: &Layouts,
+    index: &Index<'_>,
     place: &'a Place,
     called: &mut Called<'a>,
 ) -> Result<(), NoMemory>
-    requires laid { AreLaid (crate_tree krate.now) layouts.now.blocks.items }
-    requires range { (place : PlaceRow) → StartsBelow (register_at (crate_tree krate.now) place) }
-    ensures { IfOk result (λ _. AddsPlace (crate_tree krate.now) place.now called.old called.new) }
+    requires index { IsIndex index.now }
+    requires range { (place : PlaceRow) → StartsBelow (register_at (crate_tree index.now.krate.now) place) }
+    ensures { IfOk result (λ _. AddsPlace (crate_tree index.now.krate.now) place.now called.old called.new) }
 {
     let fresh = take(alloc, &mut called.seen, place)?;
     if fresh {
-        return add_preset(register_at(krate, layouts, place), &mut called.presets);
+        return add_preset(register_at(index, place), &mut called.presets);
     }
     Ok(())
 }
@@ -63,13 +62,12 @@ fn add_place<'a>(
 /// The presets of a script: of each register that it calls the reset word, in the order of the first calls.
 pub(crate) fn called_presets(
     alloc: Global,
-    krate: &Crate,
-    layouts: &Layouts,
+    index: &Index<'_>,
     script: &Script,
 ) -> Result<Vec<Preset>, NoMemory>
-    requires laid { AreLaid (crate_tree krate.now) layouts.now.blocks.items }
-    requires range { (place : PlaceRow) → StartsBelow (register_at (crate_tree krate.now) place) }
-    ensures { IfOk result (λ presets. map preset_seen presets.items ≡ text_presets (crate_tree krate.now) script.now) }
+    requires index { IsIndex index.now }
+    requires range { (place : PlaceRow) → StartsBelow (register_at (crate_tree index.now.krate.now) place) }
+    ensures { IfOk result (λ presets. map preset_seen presets.items ≡ text_presets (crate_tree index.now.krate.now) script.now) }
 {
     let mut made = Called {
         seen: IndexSet::new(alloc),
@@ -78,7 +76,7 @@ pub(crate) fn called_presets(
     let mut rest = script.lines.as_slice();
     while let Some((line, others)) = rest.split_first() {
         if let Some(place) = called(&line.statement) {
-            add_place(alloc, krate, layouts, place, &mut made)?;
+            add_place(alloc, index, place, &mut made)?;
         }
         rest = others;
     }

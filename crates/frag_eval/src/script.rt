@@ -1,6 +1,6 @@
 ghost use Rattle.std.specs.Prelude.{◌≡◌, IfOk, option_map};
-ghost use Rattle.frag_layout.specs.Layouts.{AreLaid};
-ghost use Rattle.frag_layout.specs.Walks.{StartsBelow, found_seen};
+ghost use Rattle.frag_index.specs.Sites.{IsIndex};
+ghost use Rattle.frag_index.specs.Walks.{StartsBelow, found_seen};
 ghost use Rattle.frag_sem.specs.CallPlaces.{register_at};
 ghost use Rattle.frag_sem.specs.Presets.{called};
 ghost use Rattle.frag_tree.specs.Trees.{crate_tree};
@@ -10,8 +10,8 @@ ghost use Rattle.frag_eval.specs.Lowered.{AreAll, IsCalled};
 use crate::deed::Deed;
 use crate::lower::{Lowering, lower_line};
 use crate::names::Bound;
-use frag_layout::{Found, Layouts, register_at};
-use frag_tree::{Crate, Place, Script, Statement};
+use frag_index::{Found, Index, register_at};
+use frag_tree::{Place, Script, Statement};
 use pac_base::NoMemory;
 use std::alloc::Global;
 
@@ -30,13 +30,13 @@ pub(crate) fn called(statement: &Statement) -> Option<&Place>
 }
 
 /// The register that a statement calls.
-fn called_at<'a>(krate: &'a Crate, layouts: &'a Layouts, statement: &Statement) -> Option<Found<'a>>
-    requires laid { AreLaid (crate_tree krate.now) layouts.now.blocks.items }
-    requires range { (place : PlaceRow) → StartsBelow (register_at (crate_tree krate.now) place) }
-    ensures { IsCalled (crate_tree krate.now) statement.now (option_map found_seen result) }
+fn called_at<'a>(index: &Index<'a>, statement: &Statement) -> Option<Found<'a>>
+    requires index { IsIndex index.now }
+    requires range { (place : PlaceRow) → StartsBelow (register_at (crate_tree index.now.krate.now) place) }
+    ensures { IsCalled (crate_tree index.now.krate.now) statement.now (option_map found_seen result) }
 {
     match called(statement) {
-        Some(place) => register_at(krate, layouts, place),
+        Some(place) => register_at(index, place),
         None => None,
     }
 }
@@ -44,13 +44,12 @@ fn called_at<'a>(krate: &'a Crate, layouts: &'a Layouts, statement: &Statement) 
 /// A script in plain numbers, against a crate whose blocks are laid out.
 pub(crate) fn lower_script(
     alloc: Global,
-    krate: &Crate,
-    layouts: &Layouts,
+    index: &Index<'_>,
     script: &Script,
 ) -> Result<Vec<Deed>, NoMemory>
-    requires laid { AreLaid (crate_tree krate.now) layouts.now.blocks.items }
-    requires range { (place : PlaceRow) → StartsBelow (register_at (crate_tree krate.now) place) }
-    ensures { IfOk result (λ deeds. AreAll (crate_tree krate.now) script.now deeds.items) }
+    requires index { IsIndex index.now }
+    requires range { (place : PlaceRow) → StartsBelow (register_at (crate_tree index.now.krate.now) place) }
+    ensures { IfOk result (λ deeds. AreAll (crate_tree index.now.krate.now) script.now deeds.items) }
 {
     let mut lowering = Lowering {
         deeds: Vec::new(alloc),
@@ -59,7 +58,7 @@ pub(crate) fn lower_script(
     };
     let mut rest = script.lines.as_slice();
     while let Some((line, others)) = rest.split_first() {
-        let found = called_at(krate, layouts, &line.statement);
+        let found = called_at(index, &line.statement);
         lower_line(alloc, &mut lowering, found, line)?;
         rest = others;
     }

@@ -1,5 +1,5 @@
 use Rattle.std.proofs.Common.{ℕ, ap, List, Some, ◌∙◌}
-use Rattle.frag_layout.specs.Walks.{found_seen}
+use Rattle.frag_index.specs.Walks.{found_seen}
 use Rattle.frag_tree.specs.declared.statement.Link.{Link}
 use Rattle.frag_tree.specs.declared.statement.Statement.TheVariants as statement
 use Rattle.frag_sem.specs.Meaning.{modify_outcome, write_outcome}

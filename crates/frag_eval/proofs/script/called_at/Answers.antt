@@ -6,7 +6,7 @@ use Rattle.frag_eval.proofs.script.called_at.Goals as goal
 
 pub returns-in-Some : goal.returns-in-Some
 returns-in-Some c =
-    c.register_at.ensures c.requires.laid (c.requires.range c.in-Some.place.now) ∙ ap (λ (o : Option Place). option_and_then (register_at (crate_tree c.args.krate.now)) o) c.in-Some.ensures
+    c.register_at.ensures (c.requires.range c.in-Some.place.now) ∙ ap (λ (o : Option Place). option_and_then (register_at (crate_tree c.args.index.now.krate.now)) o) c.in-Some.ensures
 
 pub returns-in-None : goal.returns-in-None
-returns-in-None c = ap (λ (o : Option Place). option_and_then (register_at (crate_tree c.args.krate.now)) o) c.in-None.ensures
+returns-in-None c = ap (λ (o : Option Place). option_and_then (register_at (crate_tree c.args.index.now.krate.now)) o) c.in-None.ensures

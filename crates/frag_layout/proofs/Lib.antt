@@ -1,4 +1,0 @@
-mod Gathered
-mod Placed
-mod Seeking
-mod Walking
