@@ -60,17 +60,18 @@ const PLACES: [(&[(&str, &str)], Option<u128>, Option<u128>); 7] = [
     ),
 ];
 
+// What a field with offset 2 and no width has for a place once these keys are set.
+fn place_by(alloc: Global, words: &[(&str, &str)]) -> Result<Place, Fail> {
+    let mut element = field(alloc, Some(2), None);
+    set_field(alloc, keys(alloc, words)?.as_slice(), &mut element)?;
+    Ok(element.place)
+}
+
 #[test]
 fn the_place_of_a_field(rt: HostRuntime) -> Result<(), Fail> {
     for row in &PLACES {
-        let mut element = field(rt.alloc(), Some(2), None);
-        set_field(
-            rt.alloc(),
-            keys(rt.alloc(), row.0)?.as_slice(),
-            &mut element,
-        )?;
-        assert!(rt; element.place.offset == row.1);
-        assert!(rt; element.place.width == row.2);
+        let place = place_by(rt.alloc(), row.0)?;
+        assert!(rt; place.offset == row.1 && place.width == row.2);
     }
     Ok(())
 }
@@ -80,8 +81,7 @@ fn a_derived_field_keeps_its_absent_width_absent(rt: HostRuntime) -> Result<(), 
     let mut element = field(rt.alloc(), Some(2), None);
     let set = keys(rt.alloc(), &[("derivedFrom", "G")])?;
     set_field(rt.alloc(), set.as_slice(), &mut element)?;
-    assert!(rt; element.derived.is_some());
-    assert!(rt; element.place.width.is_none());
+    assert!(rt; element.derived.is_some() && element.place.width.is_none());
     Ok(())
 }
 
@@ -105,6 +105,23 @@ const REGISTER: &[(&str, &str)] = &[
     ("size", "8"),
 ];
 
+// Whether a register has what these keys say, each in its form and the last of a key that comes twice.
+fn is_set(element: &Register) -> bool {
+    element.derived.is_some()
+        && element.dim.count == Some(2)
+        && element.dim.step == Some(16)
+        && element.dim.index.is_some()
+        && element.offset == 8
+        && element.alternate.is_some()
+        && element.group.is_some()
+        && element.props.size == Some(8)
+        && element.props.access == Some(Access::ReadOnly)
+        && element.props.reset_value == Some(5)
+        && element.props.reset_mask == Some(15)
+        && element.kind == Some(WriteKind::OneToClear)
+        && element.action == Some(ReadAction::Clear)
+}
+
 #[test]
 fn each_key_of_a_register(rt: HostRuntime) -> Result<(), Fail> {
     let mut element = Register {
@@ -123,33 +140,21 @@ fn each_key_of_a_register(rt: HostRuntime) -> Result<(), Fail> {
         keys(rt.alloc(), REGISTER)?.as_slice(),
         &mut element,
     )?;
-    assert!(rt; element.derived.is_some());
-    assert!(rt; element.dim.count == Some(2));
-    assert!(rt; element.dim.step == Some(16));
-    assert!(rt; element.dim.index.is_some());
-    assert!(rt; element.offset == 8);
-    assert!(rt; element.alternate.is_some());
-    assert!(rt; element.group.is_some());
-    assert!(rt; element.props.size == Some(8));
-    assert!(rt; element.props.access == Some(Access::ReadOnly));
-    assert!(rt; element.props.reset_value == Some(5));
-    assert!(rt; element.props.reset_mask == Some(15));
-    assert!(rt; element.kind == Some(WriteKind::OneToClear));
-    assert!(rt; element.action == Some(ReadAction::Clear));
+    assert!(rt; is_set(&element));
     Ok(())
 }
 
+// Keys of which a peripheral has the first alone and a cluster the next two, and one whose value is no number.
+const OUTER: &[(&str, &str)] = &[
+    ("baseAddress", "0x40"),
+    ("addressOffset", "4"),
+    ("alternateCluster", "K"),
+    ("size", "x"),
+];
+
 #[test]
-fn keys_of_peripherals_and_clusters(rt: HostRuntime) -> Result<(), Fail> {
-    let set = keys(
-        rt.alloc(),
-        &[
-            ("baseAddress", "0x40"),
-            ("addressOffset", "4"),
-            ("alternateCluster", "K"),
-            ("size", "x"),
-        ],
-    )?;
+fn keys_of_a_peripheral(rt: HostRuntime) -> Result<(), Fail> {
+    let set = keys(rt.alloc(), OUTER)?;
     let mut peripheral = Peripheral {
         derived: None,
         dim: NO_DIM,
@@ -158,8 +163,13 @@ fn keys_of_peripherals_and_clusters(rt: HostRuntime) -> Result<(), Fail> {
         children: Vec::new(rt.alloc()),
     };
     set_peripheral(rt.alloc(), set.as_slice(), &mut peripheral)?;
-    assert!(rt; peripheral.base == 64);
-    assert!(rt; peripheral.props.size.is_none());
+    assert!(rt; peripheral.base == 64 && peripheral.props.size.is_none());
+    Ok(())
+}
+
+#[test]
+fn keys_of_a_cluster(rt: HostRuntime) -> Result<(), Fail> {
+    let set = keys(rt.alloc(), OUTER)?;
     let mut cluster = Cluster {
         derived: None,
         dim: NO_DIM,
@@ -169,8 +179,7 @@ fn keys_of_peripherals_and_clusters(rt: HostRuntime) -> Result<(), Fail> {
         children: Vec::new(rt.alloc()),
     };
     set_cluster(rt.alloc(), set.as_slice(), &mut cluster)?;
-    assert!(rt; cluster.offset == 4);
-    assert!(rt; cluster.alternate.is_some());
+    assert!(rt; cluster.offset == 4 && cluster.alternate.is_some());
     Ok(())
 }
 
@@ -186,7 +195,6 @@ fn keys_of_the_device(rt: HostRuntime) -> Result<(), Fail> {
         &[("name", "My device"), ("size", "32"), ("width", "8")],
     )?;
     set_device_keys(rt.alloc(), set.as_slice(), &mut device)?;
-    assert!(rt; device.name.as_str() == "My device");
-    assert!(rt; device.props.size == Some(32));
+    assert!(rt; device.name.as_str() == "My device" && device.props.size == Some(32));
     Ok(())
 }
