@@ -5,14 +5,10 @@
 #[cfg(test)]
 mod blocks;
 #[cfg(test)]
-mod copies;
-#[cfg(test)]
 mod edits;
 #[cfg(test)]
 mod patches;
 #[cfg(test)]
 mod patterns;
-#[cfg(test)]
-mod settings;
 #[cfg(test)]
 mod told;
