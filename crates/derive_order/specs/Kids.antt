@@ -46,3 +46,8 @@ is_counted_kind (Some kind) = is_counted (record { kind = kind; name = []; numbe
 -- of each element it is told whether it is counted
 abbrev pub TellsCounted : List Item → List Bool → Type 0
 TellsCounted items flags = (e : ℕ) → e < length items → get_or flags e false ≡ is_counted_kind (item_at items e).kind
+
+-- flat rows, with the derived children of their elements
+pub record Known : Type 0 where
+  pub all : Rows
+  pub children : ℕ → List ℕ
