@@ -138,8 +138,9 @@ pub fn copied_sets(alloc: Global, sets: &[Values]) -> Result<Vec<Values>, NoMemo
     Ok(made)
 }
 
+/// The same field once more, with all below it.
 #[tactic(auto, unfolding(crate::specs::Trees::field_places))]
-fn copied_field(alloc: Global, field: &Field) -> Result<Field, NoMemory>
+pub fn copied_field(alloc: Global, field: &Field) -> Result<Field, NoMemory>
     ensures { IfOk result (λ made. field_tree made ≡ field_tree field.now) }
 {
     Ok(Field {
@@ -206,8 +207,9 @@ fn copied_item(alloc: Global, item: &Item) -> Result<Item, NoMemory>
     })
 }
 
+/// The same cluster or register once more, with all below it.
 #[cycle(copy)]
-fn copied_child(alloc: Global, child: &Child) -> Result<Child, NoMemory>
+pub fn copied_child(alloc: Global, child: &Child) -> Result<Child, NoMemory>
     ensures { IfOk result (λ made. child_tree made ≡ child_tree child.now) }
 {
     match child {
@@ -231,8 +233,9 @@ fn copied_cluster(alloc: Global, cluster: &Cluster) -> Result<Cluster, NoMemory>
     })
 }
 
+/// The same peripheral once more, with all below it.
 #[tactic(auto, unfolding(crate::specs::Trees::peripheral_places))]
-fn copied_peripheral(alloc: Global, peripheral: &Peripheral) -> Result<Peripheral, NoMemory>
+pub fn copied_peripheral(alloc: Global, peripheral: &Peripheral) -> Result<Peripheral, NoMemory>
     ensures { IfOk result (λ made. peripheral_tree made ≡ peripheral_tree peripheral.now) }
 {
     Ok(Peripheral {

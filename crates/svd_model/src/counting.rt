@@ -1,7 +1,7 @@
 ghost use Rattle.std.specs.Prelude.{◌≡◌, ◌+◌, map};
 ghost use Rattle.svd_model.specs.Counting.{told_count, elements_in};
 ghost use Rattle.svd_model.specs.Steps.{set};
-ghost use Rattle.svd_model.specs.Trees.{device_tree, child_tree, item_under, field_under, peripheral_under, set_tree, numbered};
+ghost use Rattle.svd_model.specs.Trees.{device_tree, child_tree, item_under, field_tree, field_under, peripheral_tree, peripheral_under, set_tree, numbered};
 ghost use Rattle.svd_rows.specs.Forest.{siblings};
 
 use crate::device::{Child, Device, Field, Item, Peripheral, Values};
@@ -75,5 +75,32 @@ impl Device {
         ensures { result ≡ told_count (elements_in (device_tree self.now).below) }
     {
         peripherals_in(&self.peripherals)
+    }
+}
+
+impl Peripheral {
+    /// How many clusters, registers, fields and enumerated values stand below it; 2^64 - 1 where there are more.
+    pub fn elements(&self) -> u64
+        ensures { result ≡ told_count (elements_in (peripheral_tree self.now).below) }
+    {
+        items_in(self.children.as_slice())
+    }
+}
+
+impl Child {
+    /// How many clusters, registers, fields and enumerated values stand below it; 2^64 - 1 where there are more.
+    pub fn elements(&self) -> u64
+        ensures { result ≡ told_count (elements_in (child_tree self.now).1.below) }
+    {
+        below(self)
+    }
+}
+
+impl Field {
+    /// How many enumerated values stand below it; 2^64 - 1 where there are more.
+    pub fn elements(&self) -> u64
+        ensures { result ≡ told_count (elements_in (field_tree self.now).below) }
+    {
+        values_in(self.values.as_slice())
     }
 }

@@ -14,7 +14,10 @@ mod props;
 mod sibling;
 mod states;
 
-pub use copy::{copied_dim, copied_name, copied_path, copied_sets};
+pub use copy::{
+    copied_child, copied_dim, copied_field, copied_name, copied_path, copied_peripheral,
+    copied_sets,
+};
 pub use counted::Counted;
 pub use device::{Child, Cluster, Device, Dim, Field, Item, Peripheral, Register, Values, Variant};
 pub use facts::{FieldFacts, RegisterFacts};
