@@ -147,19 +147,20 @@ pub at-parts : (path : List Step) (keys : List Key) (f : Below) → at path keys
 unfolding rows
 at-parts path keys f = map-append (under_path path) (own keys) (forest_rows f)
 
+-- the elements of the rows of one element with those before and behind them
+pub context-sum : (path : List Step) (keys : List Key) (f : Below) (before after : Rows) → elements_of (before ++ (at path keys f ++ after)) ≡ elements_of before + ((elements_of (map (under_path path) (own keys)) + elements_in f) + elements_of after)
+context-sum path keys f before after =
+    elements-append before (at path keys f ++ after)
+    ∙ ap (λ (n : ℕ). elements_of before + n)
+    (elements-append (at path keys f) after
+    ∙ ap (λ (n : ℕ). n + elements_of after) (ap elements_of (at-parts path keys f) ∙ elements-append (map (under_path path) (own keys)) (inner path f) ∙ ap (λ (n : ℕ). elements_of (map (under_path path) (own keys)) + n) (inner-counted path f)))
+
 -- where an element has no more below it than before, there are no more elements in all
 pub fewer-in : (path : List Step) (keys : List Key) (f new : Below) (before after : Rows) → elements_in new ≤ elements_in f → elements_of (before ++ (at path keys f ++ after)) ≤ element_limit → elements_of (before ++ (at path keys new ++ after)) ≤ element_limit
 fewer-in path keys f new before after less few =
-    subst (λ (n : ℕ). n ≤ element_limit) (sym (sums new))
-    (at_most (elements_of before) (elements_of (map (under_path path) (own keys))) (elements_in new) (elements_in f) (elements_of after) less (subst (λ (n : ℕ). n ≤ element_limit) (sums f) few))
+    subst (λ (n : ℕ). n ≤ element_limit) (sym (context-sum path keys new before after))
+    (at_most (elements_of before) (elements_of (map (under_path path) (own keys))) (elements_in new) (elements_in f) (elements_of after) less (subst (λ (n : ℕ). n ≤ element_limit) (context-sum path keys f before after) few))
   where
-    sums : (g : Below) → elements_of (before ++ (at path keys g ++ after)) ≡ elements_of before + ((elements_of (map (under_path path) (own keys)) + elements_in g) + elements_of after)
-    sums g =
-        elements-append before (at path keys g ++ after)
-        ∙ ap (λ (n : ℕ). elements_of before + n)
-        (elements-append (at path keys g) after
-        ∙ ap (λ (n : ℕ). n + elements_of after) (ap elements_of (at-parts path keys g) ∙ elements-append (map (under_path path) (own keys)) (inner path g) ∙ ap (λ (n : ℕ). elements_of (map (under_path path) (own keys)) + n) (inner-counted path g)))
-
     at_most : (a b c d e : ℕ) → c ≤ d → a + ((b + d) + e) ≤ element_limit → a + ((b + c) + e) ≤ element_limit
     at_most a b c d e less few = omega (arith, less, few)
 

@@ -1,4 +1,5 @@
 pub mod Contexts
+pub mod Parents
 pub mod Walks
 pub mod Passed
 pub mod EditedTrees

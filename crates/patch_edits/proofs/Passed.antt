@@ -19,7 +19,7 @@ abbrev pub Passed : {A : Type 0} → (Step → Bool) → (Kind → Below → Out
 Passed test edit seen old now i =
     each test edit (siblings (map seen old)) ≡ (each test edit (siblings (map seen (drop i now))) >>= (λ others. Ok (join (siblings (map seen (take i now))) others)))
 
-join-leaf : (f : Below) → join f leaf ≡ f
+pub join-leaf : (f : Below) → join f leaf ≡ f
 unfolding join
 join-leaf leaf = refl
 join-leaf (node s ks c n) = ap (node s ks c) (join-leaf n)
@@ -34,7 +34,7 @@ unfolding join siblings
 single x others = refl
 
 -- one more sibling
-join-one : (front : List (Step × Tree Step Key)) (x : Step × Tree Step Key) (others : Below) → join (siblings (front ++ x ∷ [])) others ≡ join (siblings front) (planted x.0 x.1 others)
+pub join-one : (front : List (Step × Tree Step Key)) (x : Step × Tree Step Key) (others : Below) → join (siblings (front ++ x ∷ [])) others ≡ join (siblings front) (planted x.0 x.1 others)
 join-one front x others = ap (λ (f : Below). join f others) (siblings-append front (x ∷ [])) ∙ join-assoc (siblings front) (siblings (x ∷ [])) others ∙ ap (join (siblings front)) (single x others)
 
 module _ {A : Type 0} (test : Step → Bool) (edit : Kind → Below → Outcome Below) (seen : A → Step × Tree Step Key) where

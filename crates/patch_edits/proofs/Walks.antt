@@ -9,6 +9,7 @@ use Rattle.patch_sem.specs.Patching.{acted, applied, applied_at, applied_to, pla
 use Rattle.patch_sem.specs.Selecting.{Rows, kind_at, last_kind, selects}
 use Rattle.patch_sem.specs.Steps.{Outcome, ◌>>=◌}
 use Rattle.patch_edits.proofs.Binds.{bind-assoc, bind-ok, bind-same, given, given_is}
+use Rattle.patch_edits.proofs.Parents.{AllClear, all-clear, applied-append, arranged, arranged-done, clear-append, clear-longer, clear-more, clear-of-one, clear-own, count-tree, kind-longer, nothing_clear, nowhere, paths-append, paths-down, paths_from, whole}
 use Rattle.patch_edits.proofs.Contexts.{Clear, at, at-parts, clear-sibling, clear-siblings, fewer-in, in_limit, inner, inner-node, inside-context, put-context, tree_with, within_path}
 use Rattle.patch_edits.specs.Visits.{Below, each, only_if, visited}
 use Rattle.svd_model.proofs.Steps.{same_step-tells}
@@ -27,13 +28,6 @@ use Rattle.svd_rows.specs.LookUps.{element_paths}
 use Rattle.svd_rows.specs.Paths.{begins, exactly, is_within}
 use Rattle.svd_rows.specs.RowEdits.{some_pass}
 use Rattle.svd_rows.specs.Rows.{own, rows, under_path}
-
-applied-append : (order : Order) (paths more : List (List Step)) (all : Rows) → applied_to order (paths ++ more) all ≡ (applied_to order paths all >>= applied_to order more)
-unfolding applied_to
-applied-append order [] more all = refl
-applied-append order (path ∷ paths) more all =
-    bind-same (applied_at order path all) (applied_to order (paths ++ more)) (λ new. applied_to order paths new >>= applied_to order more) (λ new is. applied-append order paths more new)
-    ∙ sym (bind-assoc (applied_at order path all) (applied_to order paths) (applied_to order more))
 
 -- ---- an edit and what it is among the rows
 
@@ -77,11 +71,6 @@ visited-fewer edit shrinks (test ∷ tests) kind f new e =
 
 -- ---- one parent
 
-kind-longer : (kind : Option Kind) (path : List Step) (step : Step) → last_kind kind (path ++ step ∷ []) ≡ Some step.kind
-unfolding last_kind
-kind-longer kind [] step = refl
-kind-longer kind (first ∷ path) step = kind-longer (Some first.kind) path step
-
 module _ (order : Order) (edit : Option Kind → Below → Outcome Below) (agrees : Agrees order edit) (shrinks : Shrinks edit) where
   one-parent : (path : List Step) (keys : List Key) (f : Below) (before after : Rows) → IsDistinct same_step f → Clear path before → Clear path after → elements_of (before ++ (at path keys f ++ after)) ≤ element_limit → applied_at order path (before ++ (at path keys f ++ after)) ≡ (edit (kind_at path) f >>= (λ new. Ok (before ++ (at path keys new ++ after))))
   unfolding applied_at
@@ -101,9 +90,6 @@ module _ (order : Order) (edit : Option Kind → Below → Outcome Below) (agree
 
   -- ---- the parents to which tests lead from one element
 
-  abbrev paths_from : List Step → List (List Step × Tree Step Key) → List (List Step)
-  paths_from path parts = map (λ (below : List Step). path ++ below) (map (λ part. part.0) parts)
-
   abbrev Walks : List (Step → Bool) → Type 0
   Walks tests =
       (path : List Step) (keys : List Key) (f : Below) (before after : Rows) → IsDistinct same_step f → Clear path before → Clear path after
@@ -119,36 +105,6 @@ module _ (order : Order) (edit : Option Kind → Below → Outcome Below) (agree
       ∙ bind-ok (edit (kind_at path) f >>= (λ new. Ok (before ++ (at path keys new ++ after))))
 
   -- ---- one sibling after the other
-
-  abbrev AllClear : List Step → Below → Rows → Type 0
-  AllClear path f all = AllByRecursion (λ step. Clear (path ++ step ∷ []) all) (steps f)
-
-  clear-append : (path : List Step) (xs ys : Rows) → Clear path xs → Clear path ys → Clear path (xs ++ ys)
-  clear-append path xs ys none none_more = some_pass-append (within_path path) xs ys none ∙ none_more
-
-  clear-more : (path : List Step) (others : List Step) (xs ys : Rows) → AllByRecursion (λ step. Clear (path ++ step ∷ []) xs) others → AllByRecursion (λ step. Clear (path ++ step ∷ []) ys) others → AllByRecursion (λ step. Clear (path ++ step ∷ []) (xs ++ ys)) others
-  clear-more path [] xs ys h k = tt
-  clear-more path (step ∷ others) xs ys h k = (clear-append (path ++ step ∷ []) xs ys h.0 k.0, clear-more path others xs ys h.1 k.1)
-
-  turned : (one other : Step) → same_step one other ≡ false → same_step other one ≡ false
-  turned one other e = cases (same_step other one) refl
-    where
-      cases : (b : Bool) → same_step other one ≡ b → b ≡ false
-      cases true h = sym (same_step-tells.itself one) ∙ ap (same_step one) (sym (same_step-tells.alone other one h)) ∙ e
-      cases false h = refl
-
-  clear-of-one : (path : List Step) (step : Step) (keys : List Key) (c : Below) (others : List Step) → AllByRecursion (λ other. same_step step other ≡ false) others → AllByRecursion (λ other. Clear (path ++ other ∷ []) (at (path ++ step ∷ []) keys c)) others
-  clear-of-one path step keys c [] absent = tt
-  clear-of-one path step keys c (other ∷ others) absent = (clear-sibling path step other keys c (turned step other absent.0), clear-of-one path step keys c others absent.1)
-
-  paths-down : (path : List Step) (step : Step) (parts : List (List Step × Tree Step Key)) → paths_from path (map (step_down step) parts) ≡ paths_from (path ++ step ∷ []) parts
-  paths-down path step [] = refl
-  paths-down path step (part ∷ parts) = ap₂ (λ (a : List Step) b. a ∷ b) (sym (append_assoc path (step ∷ []) part.0)) (paths-down path step parts)
-
-  paths-append : (path : List Step) (xs ys : List (List Step × Tree Step Key)) → paths_from path (xs ++ ys) ≡ paths_from path xs ++ paths_from path ys
-  paths-append path xs ys =
-      ap (map (λ (below : List Step). path ++ below)) (map-append (λ (part : List Step × Tree Step Key). part.0) xs ys)
-      ∙ map-append (λ (below : List Step). path ++ below) (map (λ (part : List Step × Tree Step Key). part.0) xs) (map (λ (part : List Step × Tree Step Key). part.0) ys)
 
   abbrev WalksEach : (Step → Bool) → List (Step → Bool) → Type 0
   WalksEach test tests =
@@ -168,13 +124,6 @@ module _ (order : Order) (edit : Option Kind → Below → Outcome Below) (agree
       ∙ walks (path ++ s ∷ []) ks c done rest distinct none none_rest few
       ∙ ap (λ (kind : Option Kind). visited edit tests kind c >>= (λ new. Ok (done ++ (at (path ++ s ∷ []) ks new ++ rest)))) (kind-longer None path s)
   one-sibling tests walks false path s ks c done rest distinct none none_rest few = refl
-
-  arranged : (path : List Step) (s : Step) (ks : List Key) (c n : Below) (done after : Rows) → done ++ (inner path (node s ks c n) ++ after) ≡ done ++ (at (path ++ s ∷ []) ks c ++ (inner path n ++ after))
-  arranged path s ks c n done after =
-      ap (λ (r : Rows). done ++ r) (ap (λ (r : Rows). r ++ after) (inner-node path s ks c n) ∙ append_assoc (at (path ++ s ∷ []) ks c) (inner path n) after)
-
-  arranged-done : (path : List Step) (s : Step) (ks : List Key) (c n : Below) (done after : Rows) → done ++ (inner path (node s ks c n) ++ after) ≡ (done ++ at (path ++ s ∷ []) ks c) ++ (inner path n ++ after)
-  arranged-done path s ks c n done after = arranged path s ks c n done after ∙ sym (append_assoc done (at (path ++ s ∷ []) ks c) (inner path n ++ after))
 
   walks-each : (test : Step → Bool) (tests : List (Step → Bool)) → Walks tests → WalksEach test tests
   unfolding each found_in applied_to steps IsDistinct
@@ -224,29 +173,6 @@ module _ (order : Order) (edit : Option Kind → Below → Outcome Below) (agree
 
   -- ---- any parents
 
-  clear-longer : (path : List Step) (step : Step) (all : Rows) → Clear path all → Clear (path ++ step ∷ []) all
-  clear-longer path step all none =
-      ap (λ (tests : List (Step → Bool)). some_pass (is_within tests) all) (map-append same_step path (step ∷ []))
-      ∙ some_pass-weaker (within_path path) (is_within (exactly same_step path ++ same_step step ∷ [])) (λ row. begins-longer (exactly same_step path) (same_step step ∷ []) row.path) all none
-
-  clear-own : (path : List Step) (step : Step) (keys : List Key) → Clear (path ++ step ∷ []) (map (under_path path) (own keys))
-  unfolding under_path
-  clear-own path step keys =
-      ap (λ (tests : List (Step → Bool)). some_pass (is_within tests) (map (under_path path) (own keys))) (map-append same_step path (step ∷ []))
-      ∙ some_pass-map (is_within (exactly same_step path ++ same_step step ∷ [])) (under_path path) (own keys)
-      ∙ some_pass-agree (λ row. begins (exactly same_step path ++ same_step step ∷ []) (path ++ row.path)) (is_within (same_step step ∷ [])) (λ row. begins-behind same_step same_step-tells path (same_step step ∷ []) row.path) (own keys)
-      ∙ some_pass-own (same_step step) [] keys
-
-  all-clear : (path : List Step) (all : Rows) (others : List Step) → ((step : Step) → Clear (path ++ step ∷ []) all) → AllByRecursion (λ step. Clear (path ++ step ∷ []) all) others
-  all-clear path all [] none = tt
-  all-clear path all (step ∷ others) none = (none step, all-clear path all others none)
-
-  whole : (path : List Step) (keys : List Key) (f : Below) (before after : Rows) → before ++ (at path keys f ++ after) ≡ (before ++ map (under_path path) (own keys)) ++ (inner path f ++ after)
-  whole path keys f before after =
-      ap (λ (r : Rows). before ++ (r ++ after)) (at-parts path keys f)
-      ∙ ap (λ (r : Rows). before ++ r) (append_assoc (map (under_path path) (own keys)) (inner path f) after)
-      ∙ sym (append_assoc before (map (under_path path) (own keys)) (inner path f ++ after))
-
   walks : (tests : List (Step → Bool)) → Walks tests
   unfolding found visited
   walks [] path keys f before after distinct none none_after few = walks-here path keys f before after distinct none none_after few
@@ -258,17 +184,6 @@ module _ (order : Order) (edit : Option Kind → Below → Outcome Below) (agree
       (subst (λ (all : Rows). elements_of all ≤ element_limit) (whole path keys f before after) few)
       ∙ bind-same (each test (λ kind. visited edit tests (Some kind)) f) (λ new. Ok ((before ++ map (under_path path) (own keys)) ++ (inner path new ++ after))) (λ new. Ok (before ++ (at path keys new ++ after)))
       (λ new is. ap Ok (sym (whole path keys new before after)))
-
-  nothing_clear : Clear [] []
-  unfolding some_pass
-  nothing_clear = refl
-
-  count-tree : (tree : Tree Step Key) → elements_of (rows tree) ≡ elements_in tree.below
-  unfolding elements_of
-  count-tree tree = count-rows is_counted tree
-
-  nowhere : (keys : List Key) (f : Below) → [] ++ (at [] keys f ++ []) ≡ rows (tree_with keys f)
-  nowhere keys f = append-nil (at [] keys f) ∙ map-under_nothing (rows (tree_with keys f))
 
   -- a command in the tree is the command among the rows
   pub walk-applied : (keys : List Key) (f : Below) → IsDistinct same_step f → elements_in f ≤ element_limit → places_of order.deed order.parents (rows (tree_with keys f)) ≡ element_paths (map selects order.parents) (rows (tree_with keys f))
