@@ -1,0 +1,10 @@
+pub mod Passed
+pub mod GrownTrees
+pub mod Fields
+pub mod NewChild
+pub mod Typed
+pub mod Counted
+pub mod Walks
+pub mod Sound
+pub mod Copying
+pub mod Adding
