@@ -1,0 +1,5 @@
+pub mod Placing
+pub mod IndexForms
+pub mod KeyForms
+pub mod Keeping
+pub mod Elements

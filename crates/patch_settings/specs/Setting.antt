@@ -1,0 +1,20 @@
+-- What setting the keys of a patch does to an element.
+use Rattle.std.specs.Prelude.{◌≡◌, true, List}
+use Rattle.patch_model.specs.Acts.{KeyList}
+use Rattle.patch_sem.specs.Selecting.{is_patched}
+use Rattle.patch_sem.specs.Settings.{container_of, keys_set, keys_with}
+use Rattle.svd_model.specs.Facts.{IsElement, IsPlacedOrDerived}
+use Rattle.svd_model.specs.Keys.{Key}
+use Rattle.svd_model.specs.Steps.{Step}
+use Rattle.svd_rows.specs.Forest.{Tree}
+use Rattle.svd_schema.specs.declared.container.Container.{Container}
+
+-- the element has the keys that the texts set, each in the place of its own, and what is below it stays
+pub record IsSet (held : Container) (texts : KeyList) (old new : Tree Step Key) : Type 0 where
+  pub keys : new.keys ≡ keys_with (keys_set held texts) old.keys
+  pub below : new.below ≡ old.below
+
+-- an element in which a patch sets keys is an element of a description
+abbrev pub SettingKeepsElements : Type 0
+SettingKeepsElements =
+    (step : Step) (texts : KeyList) (keys : List Key) → is_patched step.kind ≡ true → IsElement IsPlacedOrDerived step keys → IsElement IsPlacedOrDerived step (keys_with (keys_set (container_of step.kind) texts) keys)

@@ -1,0 +1,13 @@
+// The keys that texts of a patch set at an element: what they are, and setting them in its place.
+#![tactic(auto)]
+
+mod element;
+mod form;
+mod law;
+mod merging;
+mod path;
+mod place;
+mod settings;
+
+pub use element::{set_cluster, set_device_keys, set_field, set_peripheral, set_register};
+pub use law::setting_law;

@@ -1,0 +1,96 @@
+ghost use Rattle.std.specs.Prelude.{◌≡◌, option_map};
+ghost use Rattle.std.specs.Map.{lookup};
+ghost use Rattle.std.specs.Str.{bytes_eq};
+ghost use Rattle.patch_sem.specs.Settings.{by_ends, number_at, of_place, of_range, place_set, value_of};
+ghost use Rattle.svd_keys.specs.Forms.{range_of};
+
+use crate::form;
+use pac_base::Text;
+use svd_schema::Key;
+use svd_values::Place;
+
+// The value of the first key of that name.
+fn value_at<'a>(keys: &'a [(Text, Text)], name: &[u8]) -> Option<&'a Text>
+    ensures { option_map (λ text. text.now) result ≡ lookup (bytes_eq name.now) keys.now }
+{
+    for entry in keys {
+        if name == entry.0.as_str().as_bytes() {
+            return Some(&entry.1);
+        }
+    }
+    None
+}
+
+fn value_of<'a>(keys: &'a [(Text, Text)], key: Key) -> Option<&'a Text>
+    ensures { option_map (λ text. text.now) result ≡ value_of key keys.now }
+{
+    value_at(keys, key.name().as_bytes())
+}
+
+fn number_at(keys: &[(Text, Text)], key: Key) -> Option<u64>
+    ensures { result ≡ number_at key keys.now }
+{
+    match value_of(keys, key) {
+        None => None,
+        Some(text) => form::number(text.as_str().as_bytes()),
+    }
+}
+
+fn widened(number: Option<u64>) -> Option<u128>
+    ensures { result ≡ number }
+{
+    match number {
+        Some(number) => Some(u128::from(number)),
+        None => None,
+    }
+}
+
+fn stated(offset: Option<u64>, width: Option<u64>) -> Place
+    ensures offset { result.offset ≡ offset }
+    ensures width { result.width ≡ width }
+{
+    Place {
+        offset: widened(offset),
+        width: widened(width),
+    }
+}
+
+// From the lowest to the highest bit where both stand, else by what stands of offset and width.
+fn by_ends(lsb: Option<u64>, msb: Option<u64>, offset: Option<u64>, width: Option<u64>) -> Place
+    ensures { of_place result ≡ by_ends lsb msb offset width }
+{
+    match (lsb, msb) {
+        (Some(lsb), Some(msb)) => Place {
+            offset: Some(u128::from(lsb)),
+            width: Some(u128::from(msb.saturating_sub(lsb)) + 1),
+        },
+        (Some(_), None) => stated(offset, width),
+        (None, _) => stated(offset, width),
+    }
+}
+
+fn by_range(text: &Text) -> Place
+    ensures { of_place result ≡ of_range (range_of text.now) }
+{
+    match form::range(text.as_str().as_bytes()) {
+        Some(place) => place,
+        None => stated(None, None),
+    }
+}
+
+/// The place of a field that the keys set, in bits: by `bitRange`, or `lsb` with `msb`, or what stands of `bitOffset`
+/// and `bitWidth`; the first form that stands counts.
+#[tactic(auto, unfolding(patch_sem::specs::Settings::place_set))]
+pub(crate) fn place_set(keys: &[(Text, Text)]) -> Place
+    ensures { of_place result ≡ place_set keys.now }
+{
+    match value_of(keys, Key::BitRange) {
+        Some(text) => by_range(text),
+        None => by_ends(
+            number_at(keys, Key::Lsb),
+            number_at(keys, Key::Msb),
+            number_at(keys, Key::BitOffset),
+            number_at(keys, Key::BitWidth),
+        ),
+    }
+}
