@@ -81,7 +81,7 @@ find-first test (node s ks c n) = cases (test s) (find-first test n)
     cases true more = refl
     cases false more = more
 
-some_is : {A : Type 0} (one other : A) → Some one ≡ Some other → one ≡ other
+pub some_is : {A : Type 0} (one other : A) → Some one ≡ Some other → one ≡ other
 some_is one other e = cc
 
 pub first-passes : (test : Step → Bool) (f : Below) (child : Step × Tree Step Key) → first_child test f ≡ Some child → test child.0 ≡ true

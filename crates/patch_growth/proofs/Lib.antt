@@ -8,3 +8,6 @@ pub mod Walks
 pub mod Sound
 pub mod Copying
 pub mod Adding
+pub mod CopySound
+pub mod Applying
+pub mod KeySets

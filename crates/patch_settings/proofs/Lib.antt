@@ -3,3 +3,4 @@ pub mod IndexForms
 pub mod KeyForms
 pub mod Keeping
 pub mod Elements
+pub mod Filled

@@ -8,7 +8,7 @@ use Rattle.svd_model.specs.Keys.{Key, rank, device_name, derived_from, dim_count
 use Rattle.svd_rows.proofs.Places.{stated-set}
 use Rattle.svd_rows.specs.Ranks.{IsPlaced, stated}
 
-rank-below : (key : Key) → rank key < 18
+pub rank-below : (key : Key) → rank key < 18
 unfolding rank
 rank-below (device_name x) = omega arith
 rank-below (derived_from x) = omega arith
@@ -78,7 +78,7 @@ IsPlaced-set first (Some other ∷ places) zero key h e = (e ∙ add-zero first,
 IsPlaced-set first (None ∷ places) (suc n) key h e = IsPlaced-set (first + 1) places n key h (omega (arith, e))
 IsPlaced-set first (Some other ∷ places) (suc n) key h e = (h.0, IsPlaced-set (first + 1) places n key h.1 (omega (arith, e)))
 
-stated-placed : (keys : List Key) (places : KeyPlaces) → IsPlaced rank 0 places → length places ≡ 18 → stated (placed keys places) ≡ keys_with keys (stated places)
+pub stated-placed : (keys : List Key) (places : KeyPlaces) → IsPlaced rank 0 places → length places ≡ 18 → stated (placed keys places) ≡ keys_with keys (stated places)
 unfolding placed keys_with
 stated-placed [] places h long = refl
 stated-placed (key ∷ keys) places h long =

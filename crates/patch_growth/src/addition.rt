@@ -1,0 +1,21 @@
+ghost use Rattle.std.specs.Prelude.{◌≡◌, IfOk, MatchResult, None, Some};
+ghost use Rattle.patch_edits.specs.Commands.{IsApplied, order_at};
+ghost use Rattle.patch_growth.specs.Additions.{Builds, BuildsAll, AreApart, IsApart};
+ghost use Rattle.patch_growth.specs.Copies.{adds_child};
+ghost use Rattle.patch_growth.specs.Grown.{Makes};
+ghost use Rattle.patch_model.specs.Acts.{addition_under, additions_under, adds_one};
+ghost use Rattle.svd_model.specs.Facts.{IsDescribed};
+ghost use Rattle.svd_model.specs.Steps.{peripheral, register, field};
+ghost use Rattle.svd_model.specs.Trees.{device_rows, item_under, field_tree, field_under, peripheral_tree, register_tree};
+
+use crate::maker::Maker;
+use crate::walking::walk;
+use glob_select::Pattern;
+use indexmap::IndexMap;
+use pac_base::{Name, NoMemory, Text};
+use patch_model::{Addition, Additions};
+use patch_sem::PatchFault;
+use patch_settings::{set_field, set_peripheral, set_register, sets_base, sets_offset};
+use std::alloc::Global;
+use svd_model::{Child, Device, Dim, Field, Item, Peripheral, Props, Register, Sibling};
+use svd_values::Place;
