@@ -1,5 +1,5 @@
 -- A walk through a device that adds to it leaves what the command leaves of its flat rows, and the description stays one.
-use Rattle.std.proofs.Common.{◌≡◌, ◌≤◌, ℕ, ◌+◌, List, map, IfOk, arith, Option, None, Result, Ok, Err, sym, ap, ◌∙◌, inl, inr, subst}
+use Rattle.std.proofs.Common.{◌≡◌, ◌≤◌, ℕ, ◌+◌, true, List, map, IfOk, arith, Option, None, Result, Ok, Err, sym, ap, ◌∙◌, inl, inr, subst}
 use Rattle.patch_model.specs.Acts.{Order, PatternItems}
 use Rattle.patch_sem.specs.declared.fault.PatchFault.{PatchFault}
 use Rattle.patch_sem.specs.Patching.{applied, places_of}

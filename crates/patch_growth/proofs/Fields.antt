@@ -1,5 +1,5 @@
 -- A walk that comes to fields: nothing below them is a child for a patch.
-use Rattle.std.proofs.Common.{◌≡◌, ◌≢◌, ℕ, ◌+◌, Bool, true, false, ◌||◌, List, [], ◌∷◌, length, map, Option, Some, Ok, Err, refl, ap, ◌∙◌, subst}
+use Rattle.std.proofs.Common.{◌≡◌, ℕ, ◌+◌, Bool, true, false, ◌||◌, List, [], ◌∷◌, length, map, Option, Some, Ok, Err, refl, ap, ◌∙◌, subst}
 use Rattle.std.specs.List.{list_any}
 use Rattle.glob_select.specs.Matching.{matches}
 use Rattle.patch_model.specs.Acts.{PatternItems}
@@ -7,7 +7,7 @@ use Rattle.patch_sem.specs.declared.fault.PatchFault.TheVariants.{NoMatch}
 use Rattle.patch_sem.specs.Selecting.{selects}
 use Rattle.patch_sem.specs.Steps.{Outcome, ◌>>=◌}
 use Rattle.patch_edits.specs.Visits.{Below}
-use Rattle.patch_growth.specs.Growths.{Growth, Tally, each, grown, grown_all, only_if, visited}
+use Rattle.patch_growth.specs.Growths.{Growth, Tally, each, grown, grown_all, only_if, put_new, visited}
 use Rattle.svd_model.specs.declared.device.Field.{Field}
 use Rattle.svd_model.specs.declared.sibling.Sibling.{Sibling}
 use Rattle.svd_model.specs.Keys.{Key}
@@ -27,6 +27,10 @@ unfolding each numbered selects
 sets-stay pattern edit total n [] = refl
 sets-stay pattern edit total n (one ∷ others) = ap (λ (made : Outcome Tally). made >>= (λ others. Ok (others.0, node (record { kind = set; name = one.0; number = n }) one.1.keys one.1.below others.1))) (sets-stay pattern edit total (n + 1) others)
 
+pub no_patterns : (patterns : List PatternItems) → length patterns ≡ 0 → patterns ≡ []
+no_patterns [] e = refl
+no_patterns (one ∷ others) e = cc
+
 module _ (growth : Growth) (first : PatternItems) (total : ℕ) where
   abbrev edit : List PatternItems → Kind → ℕ → Below → Outcome Tally
   edit rest kind = grown_all growth (map selects rest) (Some kind)
@@ -37,13 +41,12 @@ module _ (growth : Growth) (first : PatternItems) (total : ℕ) where
       >>= (λ here. each (selects first) (edit rest) here.0 (siblings (map field_under left)) >>= (λ others. Ok (others.0, node (field_under x).0 (field_under x).1.keys here.1 others.1)))
 
   -- nothing is opened in fields
-  pub fields-opened : (rest : List PatternItems) (entries : List Entry) → length rest ≢ 0 → each (selects first) (edit rest) total (siblings (map field_under entries)) ≡ Ok (total, siblings (map field_under entries))
+  pub fields-opened : (next : PatternItems) (rest : List PatternItems) (entries : List Entry) → each (selects first) (edit (next ∷ rest)) total (siblings (map field_under entries)) ≡ Ok (total, siblings (map field_under entries))
   unfolding each siblings visited
-  fields-opened [] entries some = absurd (some refl)
-  fields-opened (next ∷ rest) [] some = refl
-  fields-opened (next ∷ rest) (x ∷ left) some =
+  fields-opened next rest [] = refl
+  fields-opened next rest (x ∷ left) =
       cases (selects first (field_under x).0)
-      ∙ ap (λ (made : Outcome Tally). made >>= (λ others. Ok (others.0, node (field_under x).0 (field_under x).1.keys (field_tree x.1).below others.1))) (fields-opened (next ∷ rest) left some)
+      ∙ ap (λ (made : Outcome Tally). made >>= (λ others. Ok (others.0, node (field_under x).0 (field_under x).1.keys (field_tree x.1).below others.1))) (fields-opened next rest left)
     where
       cases : (b : Bool) → here b (edit (next ∷ rest) field total (field_tree x.1).below) x left (next ∷ rest) ≡ here false (Ok (total, (field_tree x.1).below)) x left (next ∷ rest)
       cases true = ap (λ (made : Outcome Tally). here true made x left (next ∷ rest)) (sets-stay next (λ inner. grown_all growth (map selects rest) (Some inner)) total 0 (map set_tree x.1.values.items))
@@ -68,7 +71,7 @@ module _ (growth : Growth) (first : PatternItems) (total : ℕ) where
 
   -- in the first that it matches nothing is found
   pub fields-none : (entries : List Entry) → list_any (is_matched first) entries ≡ true → each (selects first) (edit []) total (siblings (map field_under entries)) ≡ Err (NoMatch growth.line)
-  unfolding each siblings visited grown
+  unfolding each siblings visited grown put_new
   fields-none [] some = absurd cc
   fields-none (x ∷ left) some = cases (is_matched first x) refl some (fields-none left)
     where

@@ -6,8 +6,4 @@ pub mod Typed
 pub mod Counted
 pub mod Walks
 pub mod Sound
-pub mod Copying
-pub mod Adding
-pub mod CopySound
 pub mod Applying
-pub mod KeySets

@@ -1,5 +1,5 @@
 -- A new child behind the others in a list of children.
-use Rattle.std.proofs.Common.{◌≡◌, ◌⊎◌, ◌≤◌, ◌<◌, ℕ, ◌+◌, ◌^◌, ◌-◌, min, Bool, true, false, cond, not, ◌&&◌, ◌||◌, nat_eq, nat_le, List, [], ◌∷◌, ◌++◌, map, Option, Some, Ok, Err, refl, sym, ap, ap₂, ◌∙◌, subst, inl, inr, arith}
+use Rattle.std.proofs.Common.{◌≡◌, ◌⊎◌, ◌≤◌, ◌<◌, ℕ, ◌+◌, ◌^◌, ◌-◌, min, Bool, true, false, cond, not, ◌&&◌, ◌||◌, nat_eq, nat_le, List, [], ◌∷◌, ◌++◌, map, MatchResult, Option, Some, Result, Ok, Err, refl, sym, ap, ap₂, ◌∙◌, subst, inl, inr, arith}
 use Rattle.std.proofs.lemmas.Bool.{or_parts}
 use Rattle.std.proofs.lemmas.Bool.Decides.{nat_tests}
 use Rattle.std.proofs.lemmas.List.{map-append}
@@ -12,18 +12,21 @@ use Rattle.patch_sem.specs.Selecting.{is_named, is_patched}
 use Rattle.patch_sem.specs.Steps.{Outcome, ◌>>=◌, refused_if}
 use Rattle.patch_edits.proofs.EditedTrees.{child-patched}
 use Rattle.patch_edits.specs.Visits.{Below}
-use Rattle.patch_growth.specs.Grown.{IsThere}
+use Rattle.patch_growth.specs.Grown.{Grown, IsThere, same_sibling}
 use Rattle.patch_growth.specs.Growths.{Growth, Tally, child_named, new_child, put_behind}
-use Rattle.svd_model.proofs.Copies.{sibling_eq}
-use Rattle.svd_model.proofs.Trees.{item_under-is, item_under-name, item_under-number}
+use Rattle.svd_model.proofs.Trees.{child_tree-cluster, child_tree-register, item_under-is, item_under-name, item_under-roll}
 use Rattle.svd_model.specs.declared.counted.Counted.TheVariants.{Elements}
-use Rattle.svd_model.specs.declared.device.Item.{Item}
+use Rattle.svd_model.specs.declared.device.Child.{Child}
+use Rattle.svd_model.specs.declared.device.Child.TheOpen.{Item-F}
+use Rattle.svd_model.specs.declared.device.Child.TheVariants as variants
+use Rattle.svd_model.specs.declared.device.Cluster.{Cluster}
+use Rattle.svd_model.specs.declared.device.Item.{Item, roll-Item}
 use Rattle.svd_model.specs.declared.sibling.Sibling.{Sibling}
 use Rattle.svd_model.specs.Counting.{elements_in, told_count}
 use Rattle.svd_model.specs.Facts.{element_limit, is_counted}
 use Rattle.svd_model.specs.Keys.{Key}
 use Rattle.svd_model.specs.Steps.{Kind, Step}
-use Rattle.svd_model.specs.Trees.{item_under, step_of}
+use Rattle.svd_model.specs.Trees.{child_tree, item_under, step_of}
 use Rattle.svd_rows.proofs.Lists.{map-map}
 use Rattle.svd_rows.proofs.Siblings.{siblings-append, steps-siblings}
 use Rattle.svd_rows.specs.Elements.{count}
@@ -93,6 +96,16 @@ module _ (growth : Growth) (kind : Option Kind) (total : ℕ) (f : Below) where
         ∙ ap (λ (b : Bool). refused_if (not b) (TooMany Elements (told_count sum)) (Ok (sum, join f (child_named growth.name child)))) (fits-limit sum few)
         ∙ ap₂ (λ (n : ℕ) (g : Below). Ok (n, g)) (sym (is.0 ∙ same-count ∙ exact-count sum few)) (sym left)
 
+-- the fault of what comes to the same
+pub carried : {A : Type 0} (one other : Outcome A) (fault : PatchFault) → one ≡ other → (fault ≡ Memory) ⊎ (other ≡ Err fault) → (fault ≡ Memory) ⊎ (one ≡ Err fault)
+carried one other fault e (inl memory) = inl memory
+carried one other fault e (inr is) = inr (e ∙ is)
+
+-- the last call, whose one fault is want of memory
+pub closes : {P : Type 0} (whole : Outcome Tally) (total : ℕ) (new : Below) (result : Result (Unit {0}) PatchFault) → MatchResult result (λ done. P) (λ fault. fault ≡ Memory) → (P → whole ≡ Ok (total, new)) → Grown whole total new result
+closes whole total new (Ok done) is more = more is
+closes whole total new (Err fault) memory more = inl memory
+
 -- ---- a list of children
 
 module _ {A : Type 0} (name : List ℕ) (seen : A → Step × Tree Step Key) (test : A → Bool) (tells : (x : A) → is_named name (seen x).0 ≡ test x) where
@@ -119,11 +132,11 @@ new-step kind key name tree is = ap₂ (λ (n : List ℕ) (m : ℕ). (record { k
 -- ---- maps
 
 -- a key that no entry has goes last
-pub insert-last : {V : Type 0} (es : List (Sibling × V)) (key : Sibling) (value : V) → list_any (λ e. bytes_eq key.name e.0.name) es ≡ false → insert_entry sibling_eq es key value ≡ es ++ (key, value) ∷ []
+pub insert-last : {V : Type 0} (es : List (Sibling × V)) (key : Sibling) (value : V) → list_any (λ e. bytes_eq key.name e.0.name) es ≡ false → insert_entry same_sibling es key value ≡ es ++ (key, value) ∷ []
 insert-last [] key value free = refl
 insert-last (e ∷ es) key value free =
     let parts = or_parts (bytes_eq key.name e.0.name) (list_any (λ e. bytes_eq key.name e.0.name) es) free in
-    ap (λ (b : Bool). cond (b && nat_eq key.number e.0.number) ((e.0, value) ∷ es) (e ∷ insert_entry sibling_eq es key value)) parts.0
+    ap (λ (b : Bool). cond (b && nat_eq key.number e.0.number) ((e.0, value) ∷ es) (e ∷ insert_entry same_sibling es key value)) parts.0
     ∙ ap (λ r. e ∷ r) (insert-last es key value parts.1)
 
 -- ---- items
@@ -132,3 +145,12 @@ pub item-named : (name : List ℕ) (item : Item) → is_named name (item_under i
 unfolding is_named
 item-named name item =
     ap₂ (λ (a b : Bool). a && b) (ap (λ (x : Step × Tree Step Key). is_patched x.0.kind) (item_under-is item) ∙ child-patched item.child) (ap (bytes_eq name) (item_under-name item))
+
+-- an item that is put together of a key and a child
+pub item-made : (name : List ℕ) (item : Item-F Child Cluster Item) → (item.key.name ≡ name) × (item.key.number ≡ 0) → item_under (roll-Item item) ≡ (record { kind = (child_tree item.child).0; name = name; number = 0 }, (child_tree item.child).1)
+item-made name item is = item_under-roll item ∙ new-step (child_tree item.child).0 item.key name (child_tree item.child).1 is
+
+-- registers and clusters are counted
+pub child-counted : (c : Child) (name : List ℕ) → is_counted (record { kind = (child_tree c).0; name = name; number = 0 }) ≡ true
+child-counted (variants.Cluster element) name = ap (λ (x : Kind × Tree Step Key). is_counted (record { kind = x.0; name = name; number = 0 })) (child_tree-cluster element)
+child-counted (variants.Register element) name = ap (λ (x : Kind × Tree Step Key). is_counted (record { kind = x.0; name = name; number = 0 })) (child_tree-register element)

@@ -7,7 +7,6 @@ use Rattle.std.proofs.lemmas.Bool.{and_parts, or_parts}
 use Rattle.glob_select.specs.Matching.{matches}
 use Rattle.patch_model.specs.Acts.{PatternItems}
 use Rattle.patch_sem.proofs.Outcomes.{both_ok}
-use Rattle.patch_sem.proofs.Renamed.{was_false}
 use Rattle.patch_sem.specs.declared.fault.PatchFault.{PatchFault}
 use Rattle.patch_sem.specs.declared.fault.PatchFault.TheVariants.{AddExists, NoMatch}
 use Rattle.patch_sem.specs.Selecting.{is_named, is_patched, selects}
@@ -45,6 +44,14 @@ MakesSound growth =
 
 -- ---- one parent
 
+-- nothing was refused
+was_false : {A : Type 0} (test : Bool) (fault : PatchFault) (rest : Outcome A) (x : A) → refused_if test fault rest ≡ Ok x → test ≡ false
+was_false true fault rest x e = absurd (no e)
+  where
+    no : Err fault ≡ Ok x → ⊥
+    no e = cc
+was_false false fault rest x e = refl
+
 turn : (one other : List ℕ) → bytes_eq one other ≡ false → bytes_eq other one ≡ false
 turn one other e = cases (bytes_eq other one) refl
   where
@@ -58,7 +65,7 @@ unfolding steps IsTyped is_named same_key
 apart name child leaf typed free = tt
 apart name child (node s ks c n) typed free =
     let parts = or_parts (is_named name s) (list_any (is_named name) (steps n)) free in
-    ((ap (λ (b : Bool). b && nat_eq s.number 0) (turn name s.name (cases (is_patched s.kind) (bytes_eq name s.name) (typed.0 refl) parts.0)), tt), apart name child n typed.2.1 parts.1)
+    ((ap (λ (b : Bool). b && nat_eq s.number 0) (turn name s.name (cases (is_patched s.kind) (bytes_eq name s.name) (typed.0 refl) parts.0)), tt), apart name child n typed.3 parts.1)
   where
     cases : (a b : Bool) → a ≡ true → (a && b) ≡ false → b ≡ false
     cases true b known e = e
@@ -79,12 +86,12 @@ new-sound growth makes kind total f t known typed sound e =
     let found = both_ok (new_child growth kind f) (put_behind total f) t e in
     let child = found-new growth kind f found.0 found.1 in
     let good = makes kind f child.0 known typed sound child.1 in
-    let is : join f (child_named growth.name child.0) ≡ t.1 = ap (join f) child.2.0 ∙ ap (λ (u : Tally). u.1) (sym (put-ok total f found.0 t found.2).1) in
+    let is : join f (child_named growth.name child.0) ≡ t.1 = ap (join f) child.2 ∙ ap (λ (u : Tally). u.1) (sym (put-ok total f found.0 t found.2).1) in
     record {
       elements = subst (Every Fine) is (Every-join Fine f (child_named growth.name child.0) sound.elements (good.itself, good.below.elements, tt));
       distinct = subst (IsDistinct same_key) is
           (IsDistinct-join same_key f (child_named growth.name child.0) sound.distinct (tt, good.below.distinct, tt)
-          (apart growth.name child.0 f (subst (λ (b : Bool). IsTyped b f) known typed) child.2.1));
+          (apart growth.name child.0 f (subst (λ (b : Bool). IsTyped b f) known typed) child.3));
     }
 
 grown-sound : (growth : Growth) → MakesSound growth → (kind : Kind) (total : ℕ) (f : Below) (t : Tally) → is_patched kind ≡ true → IsTyped (holds kind) f → IsSound f → grown growth (Some kind) total f ≡ Ok t → IsSound t.1
@@ -134,8 +141,8 @@ module _ (pattern : PatternItems) (edit : Kind → ℕ → Below → Outcome Tal
   each-sound known total (node s ks c n) t typed sound e =
       let first = both_ok (only_if (selects pattern s) (edit s.kind total c) (total, c)) (λ here. each (selects pattern) edit here.0 n >>= (λ others. Ok (others.0, node s ks here.1 others.1))) t e in
       let second = both_ok (each (selects pattern) edit first.0.0 n) (λ others. Ok (others.0, node s ks first.0.1 others.1)) t first.2 in
-      let inside = only-sound (selects pattern s) s total c first.0 refl typed.2.0 (record { elements = sound.elements.1; distinct = sound.distinct.1 }) first.1 in
-      let behind = each-sound known first.0.0 n second.0 typed.2.1 (record { elements = sound.elements.2; distinct = sound.distinct.2 }) second.1 in
+      let inside = only-sound (selects pattern s) s total c first.0 refl typed.2 (record { elements = sound.elements.1; distinct = sound.distinct.1 }) first.1 in
+      let behind = each-sound known first.0.0 n second.0 typed.3 (record { elements = sound.elements.2; distinct = sound.distinct.2 }) second.1 in
       subst (λ (u : Tally). IsSound u.1) (counted.given_is (second.0.0, node s ks first.0.1 second.0.1) t second.2)
       (record {
         elements = (sound.elements.0, inside.elements, behind.elements);

@@ -1,6 +1,6 @@
 -- What the declared types alone say of the tree of a description: the keys of each element stand by rank, and what stands in the
 -- device, a peripheral, a cluster or a register is known to patches.
-use Rattle.std.proofs.Common.{◌≡◌, ℕ, ◌+◌, Bool, true, false, List, [], ◌∷◌, map, Option, Some, None, refl, sym, subst}
+use Rattle.std.proofs.Common.{◌≡◌, ℕ, ◌+◌, Bool, true, false, List, [], ◌∷◌, map, Option, Some, None, refl, sym, subst, ◌∙◌}
 use Rattle.std.specs.Prelude.{⊤}
 use Rattle.std.specs.List.{AllByRecursion}
 use Rattle.patch_sem.specs.Selecting.{is_patched}
@@ -76,7 +76,7 @@ typed-register key r = ((λ e. refl), ranked (register_places r) (register-place
 typed-all : (items : List Item) → AllByRecursion (λ item. Typed (item_under item)) items → IsTyped true (siblings (map item_under items))
 unfolding IsTyped siblings
 typed-all [] all = tt
-typed-all (item ∷ items) all = (all.0.0, all.0.1, all.0.2.0, typed-all items all.1)
+typed-all (item ∷ items) all = (all.0.0, all.0.1, all.0.2, typed-all items all.1)
 
 typed-cluster : (key : Sibling) (c : Cluster) → AllByRecursion (λ item. Typed (item_under item)) (out-Cluster c).children.items → Typed (step_of cluster key, cluster_tree c)
 unfolding IsTyped siblings

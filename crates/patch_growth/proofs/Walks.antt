@@ -1,5 +1,5 @@
 -- A command that adds to the tree is the command at each of its parents in turn, among the flat rows.
-use Rattle.std.proofs.Common.{◌≡◌, ◌≤◌, ℕ, ◌+◌, Bool, true, false, cond, not, nat_le, List, [], ◌∷◌, ◌++◌, map, Option, Some, None, Ok, Err, refl, sym, ap, ap₂, ◌∙◌, subst, append-nil, append_assoc, map-id}
+use Rattle.std.proofs.Common.{◌≡◌, ◌≤◌, ℕ, ◌+◌, Bool, true, false, cond, not, nat_le, List, [], ◌∷◌, ◌++◌, map, Option, Some, None, Ok, Err, refl, sym, ap, ap₂, ◌∙◌, subst, append-nil, append_assoc, arith, map-id}
 use Rattle.patch_model.specs.Acts.{Order}
 use Rattle.patch_sem.specs.declared.fault.PatchFault.TheVariants.{TooMany}
 use Rattle.patch_sem.specs.Patching.{acted, applied, applied_at, applied_to, places_of, put_inside, within_limit}
@@ -9,7 +9,7 @@ use Rattle.patch_edits.proofs.Binds.{bind-assoc, bind-ok, bind-same}
 use Rattle.patch_edits.proofs.Contexts.{Clear, at, clear-siblings, context-sum, inner, inside-context, put-context, tree_with}
 use Rattle.patch_edits.proofs.Parents.{AllClear, all-clear, applied-append, arranged, arranged-done, clear-append, clear-longer, clear-more, clear-of-one, clear-own, count-tree, kind-longer, nothing_clear, nowhere, paths-append, paths-down, paths_from, whole}
 use Rattle.patch_edits.specs.Visits.{Below}
-use Rattle.patch_growth.proofs.Counted.{recounted, each-rises, visited-rises}
+use Rattle.patch_growth.proofs.Counted.{given_is, recounted, visited-rises}
 use Rattle.patch_growth.proofs.Typed.{IsTyped, holds, holds_at}
 use Rattle.patch_growth.specs.Growths.{Growth, Tally, each, grown, only_if, put_behind, put_new, visited}
 use Rattle.svd_model.specs.Counting.{elements_in, told_count}
@@ -41,7 +41,7 @@ module _ (order : Order) (growth : Growth) (agrees : Agrees order growth) where
   one-parent : (path : List Step) (keys : List Key) (f : Below) (before after : Rows) (total : ℕ) → IsDistinct same_step f → IsTyped (holds_at (kind_at path)) f → Clear path before → Clear path after
       → elements_of (before ++ (at path keys f ++ after)) ≡ total
       → applied_at order path (before ++ (at path keys f ++ after)) ≡ (grown growth (kind_at path) total f >>= put_at path keys before after)
-  unfolding applied_at grown
+  unfolding applied_at grown within_limit
   one-parent path keys f before after total distinct typed none none_after count =
       ap (λ (seen : Rows). acted order.line order.deed (kind_at path) seen >>= put) (inside-context path (rows (tree_with keys f)) before after none none_after)
       ∙ ap (λ (made : Outcome Rows). made >>= put) (agrees (kind_at path) keys f distinct typed)
@@ -60,7 +60,6 @@ module _ (order : Order) (growth : Growth) (agrees : Agrees order growth) where
       turned false n g = refl
 
       settled : (more : Below) → put (rows (tree_with keys (join f more))) ≡ (put_behind total f more >>= put_at path keys before after)
-      unfolding within_limit
       settled more =
           ap within_limit (put-context path keys f (rows (tree_with keys (join f more))) before after none none_after)
           ∙ ap (λ (n : ℕ). limited n (join f more)) (recounted path keys f before after total (total + elements_in more, join f more) count (sums total (elements_in more) (elements_in f) ∙ ap (λ (n : ℕ). total + n) (sym (count-join is_counted f more))))
@@ -118,11 +117,11 @@ module _ (order : Order) (growth : Growth) (agrees : Agrees order growth) where
       (arranged path s ks c n done after)
       ∙ applied-append order (paths_from path (cond (test s) (map (step_down s) (found tests (tree_with ks c))) [])) later (done ++ (at (path ++ s ∷ []) ks c ++ rest))
       ∙ ap (λ (made : Outcome Rows). made >>= applied_to order later)
-      (one-sibling tests walks (test s) path s ks c done rest total distinct.1 typed.2.0 none.0 (clear-append (path ++ s ∷ []) (inner path n) after (clear-siblings path s n distinct.0) none_after.0) count_here)
+      (one-sibling tests walks (test s) path s ks c done rest total distinct.1 typed.2 none.0 (clear-append (path ++ s ∷ []) (inner path n) after (clear-siblings path s n distinct.0) none_after.0) count_here)
       ∙ bind-assoc here (put_at (path ++ s ∷ []) ks done rest) (applied_to order later)
       ∙ bind-same here (λ new. applied_to order later (done ++ (at (path ++ s ∷ []) ks new.1 ++ rest)))
       (λ new. others_of new >>= put_in path done after)
-      (λ new is. others-done new (walks-each test tests walks path known n (done ++ at (path ++ s ∷ []) ks new.1) after new.0 distinct.2 typed.2.1
+      (λ new is. others-done new (walks-each test tests walks path known n (done ++ at (path ++ s ∷ []) ks new.1) after new.0 distinct.2 typed.3
       (clear-more path (steps n) done (at (path ++ s ∷ []) ks new.1) none.1 (clear-of-one path s ks new.1 (steps n) distinct.0)) none_after.1
       (ap elements_of (append_assoc done (at (path ++ s ∷ []) ks new.1) rest)
       ∙ recounted (path ++ s ∷ []) ks c done rest total new count_here (rises (test s) new is))))
@@ -148,7 +147,7 @@ module _ (order : Order) (growth : Growth) (agrees : Agrees order growth) where
 
       rises : (b : Bool) (new : Tally) → only_if b (edits s.kind total c) (total, c) ≡ Ok new → new.0 + elements_in c ≡ total + elements_in new.1
       rises true new e = visited-rises growth tests (Some s.kind) total c new e
-      rises false new e = cc
+      rises false new e = ap (λ (u : Tally). u.0 + elements_in c) (sym (given_is (total, c) new e)) ∙ ap (λ (u : Tally). total + elements_in u.1) (given_is (total, c) new e)
 
       others-done : (new : Tally)
           → applied_to order later ((done ++ at (path ++ s ∷ []) ks new.1) ++ rest) ≡ (each test edits new.0 n >>= put_in path (done ++ at (path ++ s ∷ []) ks new.1) after)

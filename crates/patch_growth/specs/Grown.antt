@@ -1,8 +1,9 @@
 -- What a walk that adds to a description leaves, or which fault it ends with.
-use Rattle.std.specs.Prelude.{◌≡◌, ◌⊎◌, ℕ, ◌+◌, ◌≤◌, ◌<◌, List, Result, Ok, Err, MatchResult, Option, Some}
+use Rattle.std.specs.Prelude.{◌≡◌, ◌⊎◌, Bool, ◌&&◌, nat_eq, ℕ, ◌+◌, ◌≤◌, ◌<◌, List, Result, Ok, Err, MatchResult, Option, Some}
+use Rattle.std.specs.Str.{bytes_eq}
 use Rattle.patch_model.specs.Acts.{PatternItems}
 use Rattle.patch_sem.specs.declared.fault.PatchFault.{PatchFault}
-use Rattle.patch_sem.specs.declared.fault.PatchFault.TheVariants.{AddExists, CopyMissing, Memory, TooMany}
+use Rattle.patch_sem.specs.declared.fault.PatchFault.TheVariants.{AddExists, Memory, TooMany}
 use Rattle.patch_sem.specs.Selecting.{selects}
 use Rattle.patch_sem.specs.Steps.{Outcome}
 use Rattle.patch_growth.specs.Growths.{Tally, only_if}
@@ -10,6 +11,7 @@ use Rattle.patch_edits.specs.Visits.{Below}
 use Rattle.svd_model.specs.Counting.{told_count}
 use Rattle.svd_model.specs.Facts.{element_limit}
 use Rattle.svd_model.specs.Keys.{Key}
+use Rattle.svd_model.specs.declared.sibling.Sibling.{Sibling}
 use Rattle.svd_model.specs.declared.counted.Counted.TheVariants.{Elements}
 use Rattle.svd_model.specs.Steps.{Kind, Step}
 use Rattle.svd_rows.specs.Forest.{Tree}
@@ -47,6 +49,6 @@ Counts before below total result =
     (λ done. (total ≡ told_count (before + (1 + below))) × (told_count (before + (1 + below)) ≤ element_limit))
     (λ fault. (fault ≡ TooMany Elements (told_count (before + (1 + below)))) × (element_limit < told_count (before + (1 + below))))
 
--- no child has the name of what is to be copied
-abbrev pub IsMissing : ℕ → List ℕ → PatchFault → Type 0
-IsMissing line name fault = (fault ≡ Memory) ⊎ (fault ≡ CopyMissing line name)
+-- keys are told apart by name and number
+abbrev pub same_sibling : Sibling → Sibling → Bool
+same_sibling key other = bytes_eq key.name other.name && nat_eq key.number other.number

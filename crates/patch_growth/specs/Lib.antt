@@ -1,3 +1,2 @@
 pub mod Growths
 pub mod Grown
-pub mod Copies

@@ -1,8 +1,9 @@
-ghost use Rattle.std.specs.Prelude.{◌≡◌, ◌⊎◌, ◌+◌, ◌≤◌, ◌<◌, IfErr, MatchResult, None, Some, map};
+ghost use Rattle.std.specs.Prelude.{◌≡◌, [], ◌∷◌, ◌++◌, MatchResult, None, Some, map};
 ghost use Rattle.std.specs.List.{list_any};
 ghost use Rattle.std.specs.Str.{bytes_eq};
 ghost use Rattle.patch_growth.specs.Growths.{grown};
-ghost use Rattle.patch_growth.specs.Grown.{Counts, Grown, IsThere};
+ghost use Rattle.indexmap.specs.IndexMap.{insert_entry};
+ghost use Rattle.patch_growth.specs.Grown.{Counts, Grown, IsThere, same_sibling};
 ghost use Rattle.svd_model.specs.Steps.{peripheral, cluster, register};
 ghost use Rattle.svd_model.specs.Trees.{peripheral_under, item_under, field_under};
 ghost use Rattle.svd_rows.specs.Forest.{siblings};
@@ -73,6 +74,30 @@ fn count_one(total: &mut u64, below: u64) -> Result<(), PatchFault>
     Ok(())
 }
 
+// A new entry, behind the others where none has its key.
+fn put_entry<V: Drop>(
+    entries: &mut IndexMap<Sibling, V>,
+    key: Sibling,
+    value: V,
+) -> Result<(), PatchFault>
+    ensures { MatchResult result (λ done. entries.new.entries ≡ insert_entry same_sibling entries.old.entries key value) (λ fault. fault ≡ PatchFault.Memory) }
+{
+    match entries.insert(key, value) {
+        Ok(_) => Ok(()),
+        Err(_) => Err(PatchFault::Memory),
+    }
+}
+
+// A new item behind the others.
+fn put_item(items: &mut Vec<Item>, item: Item) -> Result<(), PatchFault>
+    ensures { MatchResult result (λ done. items.new.items ≡ items.old.items ++ item ∷ []) (λ fault. fault ≡ PatchFault.Memory) }
+{
+    match items.push(item) {
+        Ok(()) => Ok(()),
+        Err(_) => Err(PatchFault::Memory),
+    }
+}
+
 /// A new peripheral behind those of a device.
 pub(crate) fn grow_peripherals<M: Maker>(
     alloc: Global,
@@ -82,16 +107,14 @@ pub(crate) fn grow_peripherals<M: Maker>(
 ) -> Result<(), PatchFault>
     ensures { Grown (grown (M.growth maker.now) None total.old (siblings (map peripheral_under peripherals.old.entries))) total.new (siblings (map peripheral_under peripherals.new.entries)) result }
 {
-    if has_entry(maker.name(), peripherals) {
-        return Err(there(alloc, maker.line(), maker.name()));
+    let name = maker.name();
+    if has_entry(name, peripherals) {
+        return Err(there(alloc, maker.line(), name));
     }
     let made = maker.peripheral(alloc, peripherals)?;
-    let key = key_of(alloc, maker.name())?;
+    let key = key_of(alloc, name)?;
     count_one(total, made.elements())?;
-    match peripherals.insert(key, made) {
-        Ok(_) => Ok(()),
-        Err(_) => Err(PatchFault::Memory),
-    }
+    put_entry(peripherals, key, made)
 }
 
 /// A new register or cluster behind those of a peripheral or cluster.
@@ -104,16 +127,15 @@ pub(crate) fn grow_items<M: Maker>(
     ensures in_peripheral { Grown (grown (M.growth maker.now) (Some peripheral) total.old (siblings (map item_under items.old.items))) total.new (siblings (map item_under items.new.items)) result }
     ensures in_cluster { Grown (grown (M.growth maker.now) (Some cluster) total.old (siblings (map item_under items.old.items))) total.new (siblings (map item_under items.new.items)) result }
 {
-    if has_item(maker.name(), items.as_slice()) {
-        return Err(there(alloc, maker.line(), maker.name()));
+    let name = maker.name();
+    let before = items.as_slice();
+    if has_item(name, before) {
+        return Err(there(alloc, maker.line(), name));
     }
-    let child = maker.child(alloc, items.as_slice())?;
-    let key = key_of(alloc, maker.name())?;
+    let child = maker.child(alloc, before)?;
+    let key = key_of(alloc, name)?;
     count_one(total, child.elements())?;
-    match items.push(Item { key, child }) {
-        Ok(()) => Ok(()),
-        Err(_) => Err(PatchFault::Memory),
-    }
+    put_item(items, Item { key, child })
 }
 
 /// A new field behind those of a register.
@@ -125,14 +147,12 @@ pub(crate) fn grow_fields<M: Maker>(
 ) -> Result<(), PatchFault>
     ensures { Grown (grown (M.growth maker.now) (Some register) total.old (siblings (map field_under fields.old.entries))) total.new (siblings (map field_under fields.new.entries)) result }
 {
-    if has_entry(maker.name(), fields) {
-        return Err(there(alloc, maker.line(), maker.name()));
+    let name = maker.name();
+    if has_entry(name, fields) {
+        return Err(there(alloc, maker.line(), name));
     }
     let made = maker.field(alloc, fields)?;
-    let key = key_of(alloc, maker.name())?;
+    let key = key_of(alloc, name)?;
     count_one(total, made.elements())?;
-    match fields.insert(key, made) {
-        Ok(_) => Ok(()),
-        Err(_) => Err(PatchFault::Memory),
-    }
+    put_entry(fields, key, made)
 }

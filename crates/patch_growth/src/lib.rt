@@ -2,9 +2,9 @@
 // elements, and a new child behind the children of each element that they lead to.
 #![tactic(auto)]
 
-mod copy;
 mod growing;
 mod maker;
 mod walking;
 
-pub use copy::copy;
+pub use maker::Maker;
+pub use walking::walk;

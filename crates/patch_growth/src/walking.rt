@@ -1,4 +1,4 @@
-ghost use Rattle.std.specs.Prelude.{◌≡◌, None, Some, map};
+ghost use Rattle.std.specs.Prelude.{◌≡◌, [], None, Some, map};
 ghost use Rattle.std.specs.List.{list_any};
 ghost use Rattle.glob_select.specs.Matching.{matches};
 ghost use Rattle.patch_sem.specs.Selecting.{selects};
@@ -165,9 +165,21 @@ fn at_fields<M: Maker>(
 ) -> Result<(), PatchFault>
     ensures { Grown (each (selects first.now) (λ kind. grown_all (M.growth maker.now) (map selects rest.now) (Some kind)) total (siblings (map field_under fields.now.entries))) total (siblings (map field_under fields.now.entries)) result }
 {
-    if !rest.is_empty() {
-        return Ok(());
+    match rest.split_first() {
+        None => at_last(maker, first, total, fields),
+        Some(_) => Ok(()),
     }
+}
+
+// The same where no pattern is left.
+fn at_last<M: Maker>(
+    maker: &M,
+    first: &Pattern,
+    total: u64,
+    fields: &IndexMap<Sibling, Field>,
+) -> Result<(), PatchFault>
+    ensures { Grown (each (selects first.now) (λ kind. grown_all (M.growth maker.now) [] (Some kind)) total (siblings (map field_under fields.now.entries))) total (siblings (map field_under fields.now.entries)) result }
+{
     if matches_one(first, fields) {
         return Err(PatchFault::NoMatch { line: maker.line() });
     }

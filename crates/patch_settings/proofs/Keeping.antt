@@ -25,7 +25,7 @@ set_key-all P one (first ∷ keys) is all = cases (nat_lt (rank first) (rank one
     cases false true more = (is, all.1)
     cases false false more = (is, all)
 
-keys_with-all : (P : Key → Type 0) (keys old : List Key) → AllByRecursion P keys → AllByRecursion P old → AllByRecursion P (keys_with keys old)
+pub keys_with-all : (P : Key → Type 0) (keys old : List Key) → AllByRecursion P keys → AllByRecursion P old → AllByRecursion P (keys_with keys old)
 unfolding keys_with
 keys_with-all P [] old new all = all
 keys_with-all P (one ∷ keys) old new all = keys_with-all P keys (set_key rank one old) new.1 (set_key-all P one old new.0 all)
@@ -96,15 +96,15 @@ form-kept step new keys kept form = at step.kind form
     at set f = tt
     at value f = f
 
-bounded-of : (places : List Bool) (keys : List Key) → AreGood places keys → AllByRecursion (IsBounded (2 ^ 64)) keys
+pub bounded-of : (places : List Bool) (keys : List Key) → AreGood places keys → AllByRecursion (IsBounded (2 ^ 64)) keys
 bounded-of places [] good = tt
 bounded-of places (one ∷ keys) good = (good.0.bounded, bounded-of places keys good.1)
 
-indexed-of : (places : List Bool) (keys : List Key) → AreGood places keys → AllByRecursion IsIndexed keys
+pub indexed-of : (places : List Bool) (keys : List Key) → AreGood places keys → AllByRecursion IsIndexed keys
 indexed-of places [] good = tt
 indexed-of places (one ∷ keys) good = (good.0.indexed, indexed-of places keys good.1)
 
-set_at : (kind : Kind) → is_patched kind ≡ true → IsSetAt (container_of kind)
+pub set_at : (kind : Kind) → is_patched kind ≡ true → IsSetAt (container_of kind)
 set_at peripheral is = tt
 set_at cluster is = tt
 set_at register is = tt

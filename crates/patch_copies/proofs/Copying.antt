@@ -20,7 +20,7 @@ use Rattle.patch_edits.specs.Commands.{order_at}
 use Rattle.patch_edits.specs.Visits.{Below}
 use Rattle.patch_growth.proofs.Typed.{IsTyped, holds_at}
 use Rattle.patch_growth.proofs.Walks.{Agrees}
-use Rattle.patch_growth.specs.Copies.{copies_child, copy_of, first_child, with_set}
+use Rattle.patch_copies.specs.Copies.{copies_child, copy_of, first_child, with_set}
 use Rattle.patch_growth.specs.Growths.{Growth, child_named, new_child, put_new}
 use Rattle.svd_model.proofs.Steps.{same_step-tells}
 use Rattle.svd_model.specs.Keys.{Key, rank}
@@ -51,7 +51,7 @@ set-above n key (first ∷ keys) above all = cases (nat_lt (rank first) (rank ke
     cases : (a b : Bool) → AllByRecursion (λ later. n < rank later) (set_key rank key keys) → AllByRecursion (λ later. n < rank later) (cond a (first ∷ set_key rank key keys) (cond b (key ∷ keys) (key ∷ first ∷ keys)))
     cases true b more = (all.0, more)
     cases false true more = (above, all.1)
-    cases false false more = (above, all.0, all.1)
+    cases false false more = (above, (all.0, all.1))
 
 above-less : (m n : ℕ) (keys : List Key) → m < n → AllByRecursion (λ later. n < rank later) keys → AllByRecursion (λ later. m < rank later) keys
 above-less m n [] less h = tt
@@ -68,7 +68,7 @@ set-ranked key (first ∷ keys) ranked = cases (nat_lt (rank first) (rank key)) 
     cases : (a : Bool) → nat_lt (rank first) (rank key) ≡ a → (b : Bool) → nat_eq (rank first) (rank key) ≡ b → IsRanked rank (set_key rank key keys) → IsRanked rank (cond a (first ∷ set_key rank key keys) (cond b (key ∷ keys) (key ∷ first ∷ keys)))
     cases true low b equal more = (set-above (rank first) key keys (ltb-true (rank first) (rank key) low) ranked.0, more)
     cases false low true equal more = (subst (λ (n : ℕ). AllByRecursion (λ later. n < rank later) keys) (eqb-true (rank first) (rank key) equal) ranked.0, ranked.1)
-    cases false low false equal more = ((over low equal, above-less (rank key) (rank first) keys (over low equal) ranked.0), ranked.0, ranked.1)
+    cases false low false equal more = ((over low equal, above-less (rank key) (rank first) keys (over low equal) ranked.0), (ranked.0, ranked.1))
 
 -- ---- the child that is copied
 
@@ -128,7 +128,7 @@ first-ranked test known leaf child typed e = absurd (no e)
   where
     no : None ≡ Some child → ⊥
     no e = cc
-first-ranked test known (node s ks c n) child typed e = cases (test s) e (first-ranked test known n child typed.2.1)
+first-ranked test known (node s ks c n) child typed e = cases (test s) e (first-ranked test known n child typed.3)
   where
     cases : (b : Bool) → cond b (Some (s, record { keys = ks; below = c })) (first_child test n) ≡ Some child → (first_child test n ≡ Some child → IsRanked rank child.1.keys) → IsRanked rank child.1.keys
     cases true found more = subst (λ (x : Step × Tree Step Key). IsRanked rank x.1.keys) (some_is (s, record { keys = ks; below = c }) child found) typed.1
@@ -174,13 +174,13 @@ module _ (keys : List Key) (f : Below) (new : Step) (distinct : IsDistinct same_
       (at-path new keys (join f (planted new tree leaf)) tree (at-end new tree f absent))) ranked)
       ∙ ap (λ (below : Below). rows (tree_with keys below)) (in_children-split same_step same_step-tells new (with_keys (set_key rank key)) f tree leaf absent tt)
 
-  all-set : (set : List Key) (tree : Tree Step Key) → IsDistinct same_step tree.below → IsRanked rank tree.keys
-      → rows_with (new ∷ []) set (rows (with_one keys f new tree)) ≡ rows (with_one keys f new (record { keys = keys_with set tree.keys; below = tree.below }))
+  all-set : (new_keys : List Key) (tree : Tree Step Key) → IsDistinct same_step tree.below → IsRanked rank tree.keys
+      → rows_with (new ∷ []) new_keys (rows (with_one keys f new tree)) ≡ rows (with_one keys f new (record { keys = keys_with new_keys tree.keys; below = tree.below }))
   unfolding rows_with keys_with
   all-set [] tree inside ranked = refl
-  all-set (key ∷ set) tree inside ranked =
-      ap (rows_with (new ∷ []) set) (one-set tree key inside ranked)
-      ∙ all-set set (record { keys = set_key rank key tree.keys; below = tree.below }) inside (set-ranked key tree.keys ranked)
+  all-set (key ∷ new_keys) tree inside ranked =
+      ap (rows_with (new ∷ []) new_keys) (one-set tree key inside ranked)
+      ∙ all-set new_keys (record { keys = set_key rank key tree.keys; below = tree.below }) inside (set-ranked key tree.keys ranked)
 
   behind-rows : (tree : Tree Step Key) → rows (tree_with keys f) ++ map (under new) (rows tree) ≡ rows (with_one keys f new tree)
   unfolding rows forest_rows
@@ -206,7 +206,7 @@ none-named name kind known (other ∷ others) free =
     new = record { kind = kind; name = name; number = 0 }
 
     cases : (b : Bool) → same_step new other ≡ b → is_named name other ≡ false → b ≡ false
-    cases true same not = sym (ap (is_named name) (same_step-tells.alone new other same) ∙ not) ∙ named-so name kind known
+    cases true same not = sym (named-so name kind known) ∙ ap (is_named name) (same_step-tells.alone new other same) ∙ not
     cases false same not = refl
 
 pub kind-known : (from : List ℕ) (step : Step) → is_named from step ≡ true → is_patched step.kind ≡ true

@@ -5,9 +5,9 @@ use Rattle.patch_sem.specs.declared.fault.PatchFault.TheVariants.{CopyMissing}
 use Rattle.patch_sem.specs.Selecting.{is_named, is_patched}
 use Rattle.patch_sem.specs.Steps.{Outcome}
 use Rattle.patch_edits.specs.Visits.{Below}
-use Rattle.patch_growth.proofs.Copying.{first-passes, kind-known, some_is}
+use Rattle.patch_copies.proofs.Copying.{first-passes, kind-known, some_is}
 use Rattle.patch_growth.proofs.Sound.{Fine, IsSound, IsSoundChild, MakesSound}
-use Rattle.patch_growth.specs.Copies.{copies_child, copy_of, first_child, with_set}
+use Rattle.patch_copies.specs.Copies.{copies_child, copy_of, first_child, with_set}
 use Rattle.patch_settings.proofs.Keeping.{setting-keeps}
 use Rattle.svd_model.specs.Facts.{HasForm, IsPlacedOrDerived}
 use Rattle.svd_model.specs.Keys.{Key}

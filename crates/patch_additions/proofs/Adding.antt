@@ -12,7 +12,7 @@ use Rattle.patch_edits.specs.Commands.{order_at}
 use Rattle.patch_edits.specs.Visits.{Below}
 use Rattle.patch_growth.proofs.Typed.{IsTyped, holds_at}
 use Rattle.patch_growth.proofs.Walks.{Agrees}
-use Rattle.patch_growth.specs.Copies.{adds_child, made_forest, made_tree}
+use Rattle.patch_additions.specs.Made.{adds_child, made_forest, made_tree}
 use Rattle.patch_growth.specs.Growths.{Growth, child_named, new_child, put_new}
 use Rattle.svd_model.specs.Keys.{Key}
 use Rattle.svd_model.specs.Steps.{Kind, Step, peripheral, cluster, register, field, set, value, same_step}

@@ -1,8 +1,8 @@
 ghost use Rattle.std.specs.Prelude.{◌≡◌, ◌⊎◌, IfErr, IfOk, MatchResult, Ok, Err, find, map, option_map, is_some};
 ghost use Rattle.std.specs.Option.{option_copied};
 ghost use Rattle.std.specs.Str.{bytes_eq};
-ghost use Rattle.patch_growth.specs.Copies.{copies_child, with_set};
-ghost use Rattle.patch_growth.specs.Grown.{IsMissing, Makes};
+ghost use Rattle.patch_copies.specs.Copies.{copies_child, with_set};
+ghost use Rattle.patch_copies.specs.Copies.{IsMissing};
 ghost use Rattle.patch_edits.specs.Commands.{IsApplied, order_at};
 ghost use Rattle.patch_model.specs.Acts.{copies};
 ghost use Rattle.patch_sem.specs.declared.fault.PatchFault.TheVariants.{Memory};
@@ -10,11 +10,10 @@ ghost use Rattle.svd_model.specs.Facts.{IsDescribed};
 ghost use Rattle.svd_model.specs.Steps.{peripheral, field};
 ghost use Rattle.svd_model.specs.Trees.{device_rows, child_tree, field_tree, peripheral_tree};
 
-use crate::maker::Maker;
-use crate::walking::walk;
 use glob_select::Pattern;
 use indexmap::IndexMap;
 use pac_base::{Name, NoMemory, Text};
+use patch_growth::{Maker, walk};
 use patch_sem::PatchFault;
 use patch_settings::{set_cluster, set_field, set_peripheral, set_register};
 use std::alloc::Global;

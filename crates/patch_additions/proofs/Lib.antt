@@ -1,0 +1,6 @@
+pub mod Adding
+pub mod Built
+pub mod KeySets
+pub mod AdditionSound
+pub mod MadeElements
+pub mod Loops

@@ -1,0 +1,4 @@
+pub mod Named
+pub mod Copied
+pub mod Copying
+pub mod CopySound

@@ -1,0 +1,29 @@
+use Rattle.std.proofs.Common.{map, refl, ◌∙◌}
+use Rattle.patch_model.specs.Acts.{copies}
+use Rattle.patch_edits.specs.Commands.{order_at}
+use Rattle.patch_growth.proofs.Applying.{device-grown, device-kept, told-whole}
+use Rattle.patch_copies.proofs.CopySound.{copy-sound}
+use Rattle.patch_copies.proofs.Copying.{copy-agrees}
+use Rattle.patch_growth.proofs.Typed.{peripherals-typed}
+use Rattle.patch_copies.specs.Copies.{copies_child}
+use Rattle.svd_model.specs.Counting.{elements_in}
+use Rattle.svd_model.specs.Trees.{device_places, device_tree, peripheral_under}
+use Rattle.svd_rows.specs.Forest.{siblings}
+use Rattle.svd_rows.specs.Ranks.{stated}
+use Rattle.patch_copies.proofs.copy.copy.Goals as goal
+
+pub returns-clause-applied : goal.returns-clause-applied
+unfolding device_tree device_places
+returns-clause-applied c =
+    let f = siblings (map peripheral_under c.args.device.now.peripherals.entries) in
+    device-grown (copies_child c.args.line c.args.name.now c.args.from.now c.args.keys.now) (stated (device_places c.args.device.now)) f (siblings (map peripheral_under c.walk.new.peripherals.entries)) c.elements.result c.walk.new.total
+    (peripherals-typed c.args.device.now.peripherals.entries) c.requires (told-whole c.elements.result (elements_in f) c.elements.ensures c.requires.few)
+    (order_at c.args.line c.args.parents.now (copies c.args.name.now c.args.from.now c.args.keys.now)) (copy-agrees c.args.line c.args.name.now c.args.from.now c.args.keys.now c.args.parents.now) c.walk.result refl c.walk.ensures
+
+pub returns-clause-described : goal.returns-clause-described
+unfolding device_tree device_places
+returns-clause-described c =
+    let f = siblings (map peripheral_under c.args.device.now.peripherals.entries) in
+    device-kept (copies_child c.args.line c.args.name.now c.args.from.now c.args.keys.now) (stated (device_places c.args.device.now)) f (siblings (map peripheral_under c.walk.new.peripherals.entries)) c.elements.result c.walk.new.total
+    (peripherals-typed c.args.device.now.peripherals.entries) c.requires (told-whole c.elements.result (elements_in f) c.elements.ensures c.requires.few)
+    (copy-sound c.args.line c.args.name.now c.args.from.now c.args.keys.now) c.args.parents.now c.walk.result c.walk.ensures

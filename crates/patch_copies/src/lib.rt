@@ -1,0 +1,6 @@
+// Copies of elements, as commands of a patch make them in the tree of a description.
+#![tactic(auto)]
+
+mod copy;
+
+pub use copy::copy;
