@@ -6,9 +6,10 @@ use Rattle.patch_growth.proofs.NewChild.{closes, insert-last, name-taken, new-st
 use Rattle.patch_growth.proofs.Passed.{broke_off}
 use Rattle.patch_growth.specs.Grown.{IsThere}
 use Rattle.patch_growth.specs.Growths.{grown, put_new}
-use Rattle.svd_model.specs.Steps.{field, register}
+use Rattle.svd_model.specs.Keys.{Key}
+use Rattle.svd_model.specs.Steps.{Kind, Step, field, register}
 use Rattle.svd_model.specs.Trees.{field_tree, field_under}
-use Rattle.svd_rows.specs.Forest.{siblings}
+use Rattle.svd_rows.specs.Forest.{Tree, siblings}
 use Rattle.patch_growth.proofs.growing.grow_fields.Goals as goal
 
 pub returns-then-has_entry : goal.returns-then-has_entry
@@ -17,8 +18,8 @@ returns-then-has_entry g c =
     let G = g.M.Maker.growth c.args.maker.now in
     let es = c.args.fields.now.entries in
     there-already G (Some register) c.args.total.now (siblings (map field_under es)) c.there.result
-    (name-taken G.name field_under (λ entry. bytes_eq G.name entry.0.name) (λ entry. refl) es ∙ ap (λ n. list_any (λ entry. bytes_eq n entry.0.name) es) (sym c.name.ensures) ∙ sym c.has_entry.ensures ∙ c.if-has_entry.true)
-    (subst (λ n. IsThere G.line n c.there.result) c.name.ensures (subst (λ n. IsThere n c.name.result.now c.there.result) c.line.ensures c.there.ensures))
+    (name-taken G.name field_under (λ entry. bytes_eq G.name entry.0.name) (λ entry. refl) es ∙ ap (λ n. list_any (λ entry. bytes_eq n entry.0.name) es) (sym c.name-name.ensures) ∙ sym c.has_entry.ensures ∙ c.if-has_entry.true)
+    (subst (λ n. IsThere G.line n c.there.result) c.name-name.ensures (subst (λ n. IsThere n c.name-name.result.now c.there.result) c.line.ensures c.there.ensures))
 
 pub returns-in_err-made : goal.returns-in_err-made
 unfolding grown put_new is_named
@@ -26,7 +27,7 @@ returns-in_err-made g c =
     let G = g.M.Maker.growth c.args.maker.now in
     let es = c.args.fields.now.entries in
     let whole = with_new G (Some register) c.args.total.now (siblings (map field_under es)) in
-    let free = name-taken G.name field_under (λ entry. bytes_eq G.name entry.0.name) (λ entry. refl) es ∙ ap (λ n. list_any (λ entry. bytes_eq n entry.0.name) es) (sym c.name.ensures) ∙ sym c.has_entry.ensures ∙ c.if-has_entry.false in
+    let free = name-taken G.name field_under (λ entry. bytes_eq G.name entry.0.name) (λ entry. refl) es ∙ ap (λ n. list_any (λ entry. bytes_eq n entry.0.name) es) (sym c.name-name.ensures) ∙ sym c.has_entry.ensures ∙ c.if-has_entry.false in
     broke_off whole whole _ _ c.in_err-made.field-0.0 c.from_residual.result c.from_residual.ensures.1 (λ e. e)
     (none-made G (Some register) c.args.total.now (siblings (map field_under es)) c.in_err-made.field-0.0 free c.in_err-made.ensures)
 
@@ -42,7 +43,7 @@ returns-in_err-count_one g c =
     let G = g.M.Maker.growth c.args.maker.now in
     let es = c.args.fields.now.entries in
     let whole = with_new G (Some register) c.args.total.now (siblings (map field_under es)) in
-    let free = name-taken G.name field_under (λ entry. bytes_eq G.name entry.0.name) (λ entry. refl) es ∙ ap (λ n. list_any (λ entry. bytes_eq n entry.0.name) es) (sym c.name.ensures) ∙ sym c.has_entry.ensures ∙ c.if-has_entry.false in
+    let free = name-taken G.name field_under (λ entry. bytes_eq G.name entry.0.name) (λ entry. refl) es ∙ ap (λ n. list_any (λ entry. bytes_eq n entry.0.name) es) (sym c.name-name.ensures) ∙ sym c.has_entry.ensures ∙ c.if-has_entry.false in
     broke_off whole whole _ _ c.in_err-count_one.field-0.0 c.from_residual-in_err-count_one.result c.from_residual-in_err-count_one.ensures.1 (λ e. e)
     (inr (too-many G (Some register) c.args.total.now (siblings (map field_under es)) (field, field_tree c.in_ok-made.made) c.elements.result free c.in_ok-made.ensures refl c.elements.ensures c.in_err-count_one.field-0.0 c.in_err-count_one.ensures))
 
@@ -51,11 +52,11 @@ unfolding grown put_new is_named
 returns g c =
     let G = g.M.Maker.growth c.args.maker.now in
     let es = c.args.fields.now.entries in
-    let child = (field, field_tree c.in_ok-made.made) in
+    let child : Kind × Tree Step Key = (field, field_tree c.in_ok-made.made) in
     let here = sym c.has_entry.ensures ∙ c.if-has_entry.false in
-    let free = name-taken G.name field_under (λ entry. bytes_eq G.name entry.0.name) (λ entry. refl) es ∙ ap (λ n. list_any (λ entry. bytes_eq n entry.0.name) es) (sym c.name.ensures) ∙ here in
+    let free = name-taken G.name field_under (λ entry. bytes_eq G.name entry.0.name) (λ entry. refl) es ∙ ap (λ n. list_any (λ entry. bytes_eq n entry.0.name) es) (sym c.name-name.ensures) ∙ here in
     closes (with_new G (Some register) c.args.total.now (siblings (map field_under es))) c.count_one.new.total _ c.put_entry.result c.put_entry.ensures
     (λ inserted. put-there G (Some register) c.args.total.now (siblings (map field_under es)) child c.elements.result free c.in_ok-made.ensures refl c.elements.ensures c.count_one.new.total _ c.in_ok-count_one.ensures
     (one-behind field_under G.name child es c.put_entry.new.entries.entries (c.in_ok-key.key, c.in_ok-made.made)
     (inserted ∙ insert-last es c.in_ok-key.key c.in_ok-made.made (ap (λ n. list_any (λ entry. bytes_eq n entry.0.name) es) c.in_ok-key.ensures.0 ∙ here))
-    (new-step field c.in_ok-key.key G.name (field_tree c.in_ok-made.made) (c.in_ok-key.ensures.0 ∙ c.name.ensures, c.in_ok-key.ensures.1))))
+    (new-step field c.in_ok-key.key G.name (field_tree c.in_ok-made.made) (c.in_ok-key.ensures.0 ∙ c.name-name.ensures, c.in_ok-key.ensures.1))))
