@@ -1,0 +1,11 @@
+pub mod Ordering
+pub mod Each
+pub mod Elements
+pub mod Keys
+pub mod Exchanging
+pub mod Agreeing
+pub mod Fewer
+pub mod Keeping
+pub mod Alike
+pub mod Bridging
+pub mod Likeness

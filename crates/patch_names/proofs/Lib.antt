@@ -1,0 +1,4 @@
+pub mod Clashes
+pub mod Stripped
+pub mod Rebuilt
+pub mod PassedItems

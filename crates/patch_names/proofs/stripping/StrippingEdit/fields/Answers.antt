@@ -1,0 +1,11 @@
+-- What is left of the fields.
+use Rattle.std.proofs.Common.{refl}
+use Rattle.patch_names.proofs.Stripped.{map-stripped}
+use Rattle.patch_names.specs.Renaming.{entry_name, stripped_below, stripped_entry}
+use Rattle.svd_model.specs.Trees.{field_under}
+use Rattle.patch_names.proofs.stripping.StrippingEdit.fields.Goals as goal
+
+pub returns : goal.returns
+unfolding stripped_below
+returns c =
+    map-stripped field_under entry_name (λ entry. refl) c.args.self.now.line c.args.self.now.prefix.now (stripped_entry c.args.self.now.prefix.now) (λ entry. refl) c.args.fields.now.entries c.strip_map.new.entries.entries c.strip_map.result c.strip_map.ensures
