@@ -7,6 +7,8 @@ mod blocks;
 #[cfg(test)]
 mod edits;
 #[cfg(test)]
+mod names;
+#[cfg(test)]
 mod patches;
 #[cfg(test)]
 mod patterns;
