@@ -9,3 +9,4 @@ pub mod Keeping
 pub mod Alike
 pub mod Bridging
 pub mod Likeness
+pub mod TakenIn

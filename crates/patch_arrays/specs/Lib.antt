@@ -1,3 +1,5 @@
 pub mod Arranging
 pub mod Siblings
 pub mod Laws
+pub mod Partings
+pub mod Members
