@@ -77,7 +77,7 @@ module _ (all : List (Row Step Key)) where
   joined from [] over more to h k = (h, k)
   joined from (x ∷ others) over more to h k = (h.0, joined x others over more to h.1 k)
 
-  ends-stand : (from : List Step) (others : List (List Step)) (to : List Step) → IsChain all from others to → IsAmong (paths_of all) to
+  pub ends-stand : (from : List Step) (others : List (List Step)) (to : List Step) → IsChain all from others to → IsAmong (paths_of all) to
   unfolding IsChain
   ends-stand from [] to h = dependence-stands all from to h
   ends-stand from (x ∷ others) to h = ends-stand x others to h.1

@@ -5,3 +5,4 @@ pub mod Circles
 pub mod Seen
 pub mod Undone
 pub mod Kept
+pub mod OneFault

@@ -3,6 +3,7 @@ use Rattle.std.specs.Prelude.{◌≡◌, ℕ, ◌≤◌, Bool, true, not, ◌&&�
 use Rattle.std.specs.List.{AllByRecursion}
 use Rattle.derived_rows.specs.Dependence.{IsAmong, IsOnCircle, HasNoCircle, deriving_paths}
 use Rattle.derived_rows.specs.Deriving.{derived_by, derived_at, derived_rows}
+use Rattle.derived_rows.specs.Faults.{Fault, IsFault, IsFaultless}
 use Rattle.svd_model.specs.Keys.{Key}
 use Rattle.svd_model.specs.Stating.{paths_of, ways_down}
 use Rattle.svd_model.specs.Steps.{Step, set, same_kind, same_step}
@@ -43,3 +44,8 @@ is_outside_sets (step ∷ next ∷ path) = not (same_kind set step.kind) && is_o
 abbrev pub PathsAreKept : Type 0
 PathsAreKept =
     (all : List (Row Step Key)) → HasNoCircle all → (path : List Step) → IsWhole all path → is_outside_sets path ≡ true → IsAmong (paths_of (derived_rows all)) path
+
+-- a description has one first fault at most, and none where it is faultless
+pub record HasOneFault (all : List (Row Step Key)) : Type 0 where
+  pub one : (fault other : Fault) → IsFault all fault → IsFault all other → fault ≡ other
+  pub none : (fault : Fault) → IsFaultless all → IsFault all fault → ⊥

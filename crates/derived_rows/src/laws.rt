@@ -1,4 +1,8 @@
-ghost use Rattle.derived_rows.specs.Laws.{CirclesDerive, LevelsAreEnough, NothingDerives, PathsAreKept};
+ghost use Rattle.std.specs.Prelude.{List};
+ghost use Rattle.derived_rows.specs.Laws.{CirclesDerive, HasOneFault, LevelsAreEnough, NothingDerives, PathsAreKept};
+ghost use Rattle.svd_model.specs.Keys.{Key};
+ghost use Rattle.svd_model.specs.Steps.{Step};
+ghost use Rattle.svd_rows.specs.Rows.{Row};
 
 /// Where elements don't depend on one another in a circle, the levels of deriving are never used up.
 pub fn levels_law()
@@ -18,4 +22,9 @@ pub fn undone_law()
 /// Deriving keeps the paths of peripherals, clusters, registers, fields and sets.
 pub fn paths_law()
     ensures { PathsAreKept }
+{}
+
+/// A description has one first fault at most, and none where it is derived.
+pub fn fault_law()
+    ensures { (all : List (Row Step Key)) → HasOneFault all }
 {}

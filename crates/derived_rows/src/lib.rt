@@ -4,4 +4,4 @@
 
 mod laws;
 
-pub use laws::{circle_law, levels_law, paths_law, undone_law};
+pub use laws::{circle_law, fault_law, levels_law, paths_law, undone_law};

@@ -1,17 +1,20 @@
 ghost use Rattle.std.specs.Prelude.{◌≡◌};
-ghost use Rattle.pac_fault.specs.Layers.{of_checking, of_parsing, of_passage, of_reading, of_script, of_typing, of_unfolding, of_writing};
+ghost use Rattle.pac_fault.specs.Layers.{of_block, of_checking, of_commands, of_deriving, of_parsing, of_patching, of_reading, of_script, of_typing, of_unfolding, of_writing};
 ghost use Rattle.pac_fault.specs.declared.fault.PacFault.TheVariants.{Memory};
 
 use crate::fault::{LimitFault, PacFault};
+use derive_from::DeriveFault;
 use dim_expand::DimFault;
 use frag_parse::ParseFault;
 use frag_types::{CrateFault, ScriptFault};
 use overlap_check::CheckFault;
 use pac_base::{Back, NoMemory};
 use pac_io::SinkFault;
+use patch_model::CommandFault;
+use patch_sem::PatchFault;
 use std::alloc::{AllocError, AllocFailed};
-use svd_model::UnbuiltFault;
 use svd_reader::SvdFault;
+use yaml_block::BlockFault;
 
 impl From<AllocError> for PacFault {
     ghost from_gives = { λ _ fault. fault ≡ Memory };
@@ -62,20 +65,53 @@ impl From<SvdFault> for PacFault {
     }
 }
 
-impl<S: Drop> From<Back<S, UnbuiltFault>> for PacFault {
-    ghost from_gives = { λ error fault. fault ≡ of_passage error.fault };
+impl From<BlockFault> for PacFault {
+    ghost from_gives = { λ error fault. fault ≡ of_block error };
 
-    fn from(error: Back<S, UnbuiltFault>) -> PacFault {
-        of_passage(error.fault)
+    fn from(error: BlockFault) -> PacFault {
+        match error {
+            BlockFault::Memory => PacFault::Memory,
+            fault => PacFault::Block(fault),
+        }
     }
 }
 
-fn of_passage(fault: UnbuiltFault) -> PacFault
-    ensures { result ≡ of_passage fault }
-{
-    match fault {
-        UnbuiltFault::Unbuilt { path } => PacFault::Unbuilt { path },
-        UnbuiltFault::Memory => PacFault::Memory,
+impl From<CommandFault> for PacFault {
+    ghost from_gives = { λ error fault. fault ≡ of_commands error };
+
+    fn from(error: CommandFault) -> PacFault {
+        match error {
+            CommandFault::Memory => PacFault::Memory,
+            fault => PacFault::Command(fault),
+        }
+    }
+}
+
+impl<S: Drop> From<Back<S, PatchFault>> for PacFault {
+    ghost from_gives = { λ error fault. fault ≡ of_patching error.fault };
+
+    fn from(error: Back<S, PatchFault>) -> PacFault {
+        match error.fault {
+            PatchFault::TooMany { kind, count } => {
+                PacFault::Limit(LimitFault::TooMany { kind, count })
+            }
+            PatchFault::Memory => PacFault::Memory,
+            fault => PacFault::Patch(fault),
+        }
+    }
+}
+
+impl<S: Drop> From<Back<S, DeriveFault>> for PacFault {
+    ghost from_gives = { λ error fault. fault ≡ of_deriving error.fault };
+
+    fn from(error: Back<S, DeriveFault>) -> PacFault {
+        match error.fault {
+            DeriveFault::TooMany { kind, count } => {
+                PacFault::Limit(LimitFault::TooMany { kind, count })
+            }
+            DeriveFault::Memory => PacFault::Memory,
+            fault => PacFault::Derive(fault),
+        }
     }
 }
 

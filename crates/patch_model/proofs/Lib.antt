@@ -6,3 +6,4 @@ pub mod TextWords
 pub mod Adding
 pub mod Patches
 pub mod Weighing
+pub mod OneReading

@@ -1,4 +1,5 @@
 pub mod Acts
 pub mod Orders
 pub mod Answers
+pub mod Readings
 pub mod Held

@@ -7,6 +7,7 @@ mod added;
 mod deed;
 mod fault;
 mod kept;
+mod laws;
 mod leaf;
 mod listed;
 mod opened;
@@ -16,4 +17,5 @@ mod refusal;
 
 pub use act::{Act, Addition, Additions, Command, Commands, Keys, Patterns};
 pub use fault::CommandFault;
+pub use laws::{one_reading, patch_law};
 pub use patch::commands;

@@ -19,3 +19,4 @@ pub mod Spelled
 pub mod Gathered
 pub mod UpTo
 pub mod Answering
+pub mod OneAnswer

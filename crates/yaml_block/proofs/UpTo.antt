@@ -148,7 +148,7 @@ broken-cut (raw ∷ raws) (suc count) first number state =
 
 -- ---- lines fit exactly where none is broken
 
-fits_unbroken : (found : Found) (tree : Tree) → Fits found tree → broken_found start found ≡ None
+pub fits_unbroken : (found : Found) (tree : Tree) → Fits found tree → broken_found start found ≡ None
 fits_unbroken found tree fits = ap (λ said. break_of said found.fault) (passes fits.blocks.forest found.lines fits.blocks.spelled) ∙ fits.formed
 
 abbrev SomeTree : Found → Type 0
@@ -180,3 +180,26 @@ is_broken bytes line is = record {
   before = λ earlier less.
       unbroken_fits (up_to earlier bytes) (up_to-broken bytes earlier line is ∙ sym (cut-before (1 + earlier) (Some line) (omega (arith, less))));
 }
+
+equal_by_less : (one other : ℕ) → (one < other → ⊥) → (other < one → ⊥) → one ≡ other
+equal_by_less one other not_less not_more = grind (arith, not_less, not_more)
+
+up_to-unbroken : (bytes : List ℕ) (count : ℕ) → broken_found start (found_in bytes) ≡ None → broken_found start (up_to count bytes) ≡ None
+unfolding found_in
+up_to-unbroken bytes count none =
+    sym (broken-found (take count (raw_lines (unmarked bytes))) true 1 start)
+    ∙ broken-cut (raw_lines (unmarked bytes)) count true 1 start
+    ∙ ap (cut (1 + count)) (broken-found (raw_lines (unmarked bytes)) true 1 start ∙ none)
+
+-- the first broken line is the only one
+pub broken_at : (bytes : List ℕ) (line : ℕ) → IsBroken bytes line → broken_found start (found_in bytes) ≡ Some line
+broken_at bytes line broken = at (broken_found start (found_in bytes)) refl
+  where
+    apart : (other : ℕ) → broken_found start (found_in bytes) ≡ Some other → (line < other → ⊥) × (other < line → ⊥)
+    apart other is =
+        let found = is_broken bytes other is in
+        ((λ less. let fit = found.before line less in broken.none fit.0 fit.1), λ less. let fit = broken.before other less in found.none fit.0 fit.1)
+
+    at : (said : Option ℕ) → broken_found start (found_in bytes) ≡ said → broken_found start (found_in bytes) ≡ Some line
+    at None is = let fit = unbroken_fits (up_to line bytes) (up_to-unbroken bytes line is) in absurd (broken.none fit.0 fit.1)
+    at (Some other) is = is ∙ ap Some (let both = apart other is in equal_by_less other line both.1 both.0)

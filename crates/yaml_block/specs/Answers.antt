@@ -1,5 +1,5 @@
 -- What a block text is: its node, or the first fault.
-use Rattle.std.specs.Prelude.{◌≡◌, ◌<◌, ℕ, List, take, Option, Some, None, true}
+use Rattle.std.specs.Prelude.{◌≡◌, ◌<◌, ℕ, List, take, Option, Some, None, true, Result, Ok, Err}
 use Rattle.yaml_block.specs.declared.lines.Found.{Found}
 use Rattle.yaml_block.specs.declared.fault.BlockFault.{BlockFault}
 use Rattle.yaml_block.specs.declared.fault.BlockFault.TheVariants.{Syntax, TooDeep, DoubleKey, Memory}
@@ -55,3 +55,9 @@ IsRefused bytes (Syntax line) = IsBroken bytes line
 IsRefused bytes (TooDeep line) = IsTooDeep bytes line
 IsRefused bytes (DoubleKey line) = IsDouble bytes line
 IsRefused bytes Memory = Unit {0}
+
+-- what bytes are found to be: a node, or refused so; of want of memory nothing is said
+abbrev pub IsFound : List ℕ → Result Tree BlockFault → Type 0
+IsFound bytes (Ok tree) = IsBlock bytes tree
+IsFound bytes (Err Memory) = ⊥
+IsFound bytes (Err fault) = IsRefused bytes fault

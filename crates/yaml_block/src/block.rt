@@ -1,5 +1,5 @@
-ghost use Rattle.std.specs.Prelude.{◌≡◌, ◌≤◌, List, length, IfOk, IfErr};
-ghost use Rattle.yaml_block.specs.Answers.{IsBlock, IsRefused};
+ghost use Rattle.std.specs.Prelude.{◌≡◌, ◌≤◌, ℕ, List, Result, length, IfOk, IfErr};
+ghost use Rattle.yaml_block.specs.Answers.{IsBlock, IsFound, IsRefused};
 ghost use Rattle.yaml_block.specs.Blocks.{Forest, Spells};
 ghost use Rattle.yaml_block.specs.Judging.{AreRight, Judged};
 ghost use Rattle.yaml_block.specs.Lines.{found_in};
@@ -7,6 +7,7 @@ ghost use Rattle.yaml_block.specs.Meanings.{Blocks};
 ghost use Rattle.yaml_block.specs.Nodes.{node_tree};
 ghost use Rattle.yaml_block.specs.Passing.{start, verdict};
 ghost use Rattle.yaml_block.specs.Trees.{Tree};
+ghost use Rattle.yaml_block.specs.declared.fault.BlockFault.{BlockFault};
 ghost use Rattle.yaml_block.specs.declared.line.Line.{Line};
 
 use crate::build::built;
@@ -27,6 +28,11 @@ pub fn one_mapping()
 /// No lines spell two nodes.
 pub fn one_node()
     ensures { (one other : Tree) (lines : List Line) → Blocks lines one → Blocks lines other → one ≡ other }
+{}
+
+/// No bytes are found to be two nodes, or to have two first faults, or a node and a fault.
+pub fn one_answer()
+    ensures { (bytes : List ℕ) (one other : Result Tree BlockFault) → IsFound bytes one → IsFound bytes other → one ≡ other }
 {}
 
 /// The lines, where they fit together and nest no deeper than 64.

@@ -20,7 +20,7 @@ mod scalar;
 mod space;
 mod value;
 
-pub use block::{one_mapping, one_node, read_block};
+pub use block::{one_answer, one_mapping, one_node, read_block};
 pub use content::Content;
 pub use fault::BlockFault;
 pub use line::Line;

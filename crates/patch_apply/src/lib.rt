@@ -1,0 +1,6 @@
+// What a patch does to a description.
+#![tactic(auto)]
+
+mod applying;
+
+pub use applying::apply;
