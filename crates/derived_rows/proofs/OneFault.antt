@@ -1,13 +1,11 @@
 -- A description has one first fault at most, and none where it is derived.
-use Rattle.std.proofs.Common.{◌≡◌, ◌<◌, ◌≤◌, ℕ, List, [], ◌∷◌, ◌++◌, Option, None, Some, refl, sym, ap, ◌∙◌, subst, arith}
+use Rattle.std.proofs.Common.{◌≡◌, List, [], ◌∷◌, ◌++◌, Option, None, Some, sym, ap, ◌∙◌, subst, arith}
 use Rattle.std.specs.List.{AllByRecursion}
-use Rattle.derived_rows.specs.Dependence.{IsFirstOnCircle, IsOnCircle, HasNoCircle}
-use Rattle.derived_rows.specs.Deriving.{derived_rows}
-use Rattle.derived_rows.specs.Faults.{Fault, missing_parent, derive_cycle, too_deep, too_many, IsFault, IsFaultless, IsOrdered, first_deep, first_missing, step_limit}
+use Rattle.derived_rows.specs.Dependence.{IsFirstOnCircle, IsOnCircle}
+use Rattle.derived_rows.specs.Faults.{Fault, missing_parent, derive_cycle, too_deep, too_many, IsFault, IsFaultless, IsOrdered, first_deep, first_missing}
 use Rattle.derived_rows.specs.Sources.{source_names}
 use Rattle.derived_rows.proofs.Circles.{ends-stand}
 use Rattle.pac_base.specs.declared.path.Step.{Step as Written}
-use Rattle.svd_model.specs.Facts.{element_limit, elements_of}
 use Rattle.svd_model.specs.Keys.{Key}
 use Rattle.svd_model.specs.Steps.{Step}
 use Rattle.svd_rows.specs.Rows.{Row}

@@ -1,8 +1,8 @@
 -- No bytes are found to be two things.
-use Rattle.std.proofs.Common.{◌≡◌, ℕ, List, Option, Some, None, Result, Ok, Err, refl, sym, ap, ◌∙◌}
+use Rattle.std.proofs.Common.{◌≡◌, ℕ, List, Option, Some, None, Result, Ok, Err, refl, ap, ◌∙◌}
 use Rattle.yaml_block.specs.declared.fault.BlockFault.{BlockFault}
 use Rattle.yaml_block.specs.declared.fault.BlockFault.TheVariants.{Syntax, TooDeep, DoubleKey, Memory}
-use Rattle.yaml_block.specs.Answers.{Fits, IsBlock, IsBroken, IsDouble, IsFound, IsTooDeep, first_deep, first_double}
+use Rattle.yaml_block.specs.Answers.{Fits, IsBroken, IsFound, first_deep, first_double}
 use Rattle.yaml_block.specs.Lines.{found_in}
 use Rattle.yaml_block.specs.Trees.{Tree}
 use Rattle.yaml_block.proofs.Meanings.{one_meant}
