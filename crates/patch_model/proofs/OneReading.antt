@@ -1,16 +1,16 @@
 -- The bytes of a patch come to one thing.
-use Rattle.std.proofs.Common.{◌≡◌, ℕ, zero, suc, Bool, true, false, List, [], ◌∷◌, Result, Ok, Err, inl, inr, refl, sym, ap, subst, ◌∙◌, arith}
+use Rattle.std.proofs.Common.{◌≡◌, ℕ, zero, suc, Bool, true, false, List, [], ◌∷◌, Ok, Err, inl, inr, refl, sym, ap, subst, ◌∙◌, arith}
 use Rattle.patch_form.specs.Demands.{Demand, IsMet}
 use Rattle.patch_form.specs.Mappings.{patch_demands}
 use Rattle.patch_form.specs.Unmet.{AllMet, Each, IsFirstUnmet, SomeOne, is_before, rank}
 use Rattle.patch_form.specs.declared.fault.FaultKind.{FaultKind}
 use Rattle.patch_form.specs.declared.fault.FaultKind.TheVariants.{UnknownCommand, UnknownKey, BadValue, BadPattern}
-use Rattle.patch_model.specs.Acts.{Order}
-use Rattle.patch_model.specs.Answers.{AreOrders, IsPatch}
+use Rattle.patch_model.specs.Answers.{IsPatch}
 use Rattle.patch_model.specs.Orders.{patch_orders}
 use Rattle.patch_model.specs.Readings.{Reading, no_block, no_commands, commanded, IsMisformed, IsReadAs}
 use Rattle.patch_model.specs.declared.fault.CommandFault.{CommandFault}
 use Rattle.patch_model.specs.declared.fault.CommandFault.TheVariants as command
+use Rattle.std.proofs.lemmas.Bool.Decides.{nat_tests}
 use Rattle.std.specs.Prelude.{nat_lt, ◌&&◌, ◌||◌, ◌==◌}
 use Rattle.yaml_block.specs.Answers.{IsBlock, IsFound}
 use Rattle.yaml_block.specs.Meanings.{entries_in, file_tree}
@@ -26,19 +26,20 @@ IsUnmetAt line kind demand = (demand.line ≡ line) × (demand.kind ≡ kind) ×
 not_before : (demands : List Demand) (line other : ℕ) (kind another : FaultKind) → SomeOne (IsUnmetAt line kind) demands → Each (λ demand. ¬ (IsMet demand.wanted) → is_before demand.line demand.kind other another ≡ false) demands → is_before line kind other another ≡ false
 not_before [] line other kind another some each = absurd some
 not_before (demand ∷ demands) line other kind another some each =
-    elim some
-    [ inl here ↦
-        subst (λ (l : ℕ). is_before l kind other another ≡ false) here.0
-        (subst (λ (k : FaultKind). is_before demand.line k other another ≡ false) here.1 (each.0 here.2))
-    | inr later ↦ not_before demands line other kind another later each.1 ]
+    elim some [
+      | inl here ↦
+          subst (λ (l : ℕ). is_before l kind other another ≡ false) here.0
+          (subst (λ (k : FaultKind). is_before demand.line k other another ≡ false) here.1 (each.0 here.2))
+      | inr later ↦ not_before demands line other kind another later each.1
+    ]
 
 neither : (a b : Bool) → (a || b) ≡ false → (a ≡ false) × (b ≡ false)
-neither true b is = absurd cc
+neither true b is = let bad : true ≡ false = is in absurd (cc bad)
 neither false b is = (refl, is)
 
 not_second : (a b : Bool) → a ≡ true → (a && b) ≡ false → b ≡ false
-not_second true b yes is = is
-not_second false b yes is = absurd cc
+not_second true b holds is = is
+not_second false b holds is = let bad : false ≡ true = holds in absurd (cc bad)
 
 same_number : (one other : ℕ) → nat_lt one other ≡ false → nat_lt other one ≡ false → one ≡ other
 same_number one other first second = grind (arith, nat_tests, first, second)
@@ -46,7 +47,7 @@ same_number one other first second = grind (arith, nat_tests, first, second)
 is_itself : (n : ℕ) → (n == n) ≡ true
 is_itself n = grind (arith, nat_tests)
 
-kind_at : ℕ → FaultKind
+abbrev kind_at : ℕ → FaultKind
 kind_at zero = UnknownCommand
 kind_at (suc zero) = UnknownKey
 kind_at (suc (suc zero)) = BadValue
@@ -79,21 +80,21 @@ not_met (demand ∷ demands) line kind some met = elim some [ inl here ↦ absur
 
 -- ---- faults
 
-line_of : CommandFault → ℕ
+abbrev line_of : CommandFault → ℕ
 line_of (command.UnknownCommand line) = line
 line_of (command.UnknownKey line) = line
 line_of (command.BadValue line) = line
 line_of (command.BadPattern line) = line
 line_of command.Memory = 0
 
-kind_of : CommandFault → FaultKind
+abbrev kind_of : CommandFault → FaultKind
 kind_of (command.UnknownCommand line) = UnknownCommand
 kind_of (command.UnknownKey line) = UnknownKey
 kind_of (command.BadValue line) = BadValue
 kind_of (command.BadPattern line) = BadPattern
 kind_of command.Memory = BadPattern
 
-fault_at : ℕ → FaultKind → CommandFault
+abbrev fault_at : ℕ → FaultKind → CommandFault
 fault_at line UnknownCommand = command.UnknownCommand line
 fault_at line UnknownKey = command.UnknownKey line
 fault_at line BadValue = command.BadValue line
