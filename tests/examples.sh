@@ -59,6 +59,16 @@ for events in "$top"/examples/*.events; do
 done
 [ "$ran" -gt 0 ] || fail "no events stand under examples/"
 
+# Each of a thousand registers is written over the memory bus.
+{
+    echo '<device><name>D</name><peripherals><peripheral><name>T</name><baseAddress>0</baseAddress><registers>'
+    for ((n = 0; n < 1000; n++)); do echo "<register><name>R$n</name><addressOffset>$((4 * n))</addressOffset></register>"; done
+    echo '</registers></peripheral></peripherals></device>'
+} >"$folder/many.svd"
+for ((n = 0; n < 1000; n++)); do echo "T.r$n().write(|w| w.bits($n));"; done >"$folder/many.script"
+for ((n = 0; n < 1000; n++)); do printf 'write 0x%08x 32 0x%08x\n' $((4 * n)) "$n"; done >"$folder/many.events"
+prints "$folder/many.events" 'run of a thousand registers' run "$folder/many.svd" "$folder/many.script"
+
 # fails STATUS LINE WHAT: the last run's status and line, and that nothing went to standard output.
 fails() {
     [ "$status" -eq "$1" ] || fail "$3: status $status instead of $1"

@@ -1,16 +1,15 @@
 -- Circles by numbers are circles by paths.
-use Rattle.std.proofs.Common.{◌≡◌, inl, inr, ◌⊎◌, ℕ, zero, suc, ◌<◌, ◌≤◌, Bool, true, false, cond, nat_eq, List, [], ◌∷◌, ◌++◌, map, filter, length, take, drop, take-append-drop, drop-cons, get_or, Option, None, Some, option_map, is_some, refl, sym, ap, ap₂, ◌∙◌, subst, arith}
+use Rattle.std.proofs.Common.{◌≡◌, inl, inr, ◌⊎◌, ℕ, zero, suc, ◌<◌, Bool, true, false, cond, nat_eq, List, [], ◌∷◌, ◌++◌, map, filter, length, take, drop, take-append-drop, drop-cons, get_or, Option, None, Some, option_map, is_some, refl, sym, ap, ◌∙◌, subst, arith}
 use Rattle.std.specs.List.{AllByRecursion, find}
 use Rattle.std.specs.Option.{is_none}
-use Rattle.std.specs.Set.{is_member}
 use Rattle.std.proofs.lemmas.Bool.{cases_Bool, eqb-true, eq-eqb, true≢false}
 use Rattle.std.proofs.lemmas.List.{get_or-take, length-take-le}
 use Rattle.std.proofs.lemmas.List.Elements.{filter-append}
 use Rattle.derive_order.specs.Faults.{TellsCycle}
-use Rattle.derive_order.proofs.Ties.{child_later, needs_are, based_is, needs_none, needs_paths, need_inside, elements_long, within}
+use Rattle.derive_order.proofs.Ties.{child_later, needs_are, based_is, needs_paths, need_inside, within}
 use Rattle.derive_sources.specs.Graphs.{children_among, IsGraph}
 use Rattle.derive_sources.specs.Missing.{TellsSources}
-use Rattle.derive_sources.specs.Numbers.{Item, AreNumbered, Rows, path_at, item_at}
+use Rattle.derive_sources.specs.Numbers.{Item, AreNumbered, Rows, path_at}
 use Rattle.derive_sources.proofs.Seats.{as_many, one_number}
 use Rattle.derive_sources.proofs.Told.{told_at}
 use Rattle.derived_rows.specs.Dependence.{same_path, dependences, IsAmong, IsChain, IsOnCircle, HasNoCircle, IsFirstOnCircle, deriving_paths}

@@ -1,6 +1,6 @@
 -- The children of each element by those of its base, as counting takes them.
-use Rattle.std.proofs.Common.{◌≡◌, inl, inr, ℕ, zero, suc, ◌<◌, ◌≤◌, Bool, true, false, not, ◌||◌, cond, nat_eq, List, [], ◌∷◌, ◌++◌, map, filter, length, get_or, Option, None, Some, option_map, unwrap_or, slice_get, refl, sym, ap, ap₂, ◌∙◌, subst, arith, map-id, Vec}
-use Rattle.std.specs.List.{AllByRecursion, list_any}
+use Rattle.std.proofs.Common.{◌≡◌, inl, inr, ℕ, zero, suc, ◌<◌, ◌≤◌, Bool, true, false, not, ◌||◌, cond, nat_eq, List, [], ◌∷◌, ◌++◌, map, filter, length, get_or, Option, None, Some, option_map, unwrap_or, slice_get, refl, sym, ap, ap₂, ◌∙◌, subst, arith, Vec}
+use Rattle.std.specs.List.{AllByRecursion}
 use Rattle.std.specs.List.Sorted.{IsPermutation}
 use Rattle.std.specs.Str.{bytes_eq}
 use Rattle.std.proofs.lemmas.Bool.{cases_lt, true≢false}
@@ -10,7 +10,7 @@ use Rattle.std.proofs.lemmas.Option.{slice_get-map, slice_get_past, unwrap_or-sl
 use Rattle.derive_order.specs.Counting.{AreBases, AreKeys, base_with, counted_base, is_field}
 use Rattle.derive_order.specs.Gone.{key_of, is_gone, base_at, base_in, AreBelow, IsTold, Replaces}
 use Rattle.derive_order.specs.Kids.{last_step, Kid, own_kids, kids_with, kids_made, kids_at, kid_numbers}
-use Rattle.derive_order.proofs.Kids.{IsKid, IsOwn, own_is, kids, kids_are, children, grows}
+use Rattle.derive_order.proofs.Kids.{IsKid, IsOwn, own_is, kids_are, children, grows}
 use Rattle.derive_order.proofs.Merged.{IsMerged, is_kept, second, shuffled_by}
 use Rattle.derive_order.proofs.Replaced.{all_of}
 use Rattle.derive_order.proofs.Ties.{child_later, elements_long, needs_are, source_inside, sources_long}
@@ -24,8 +24,7 @@ use Rattle.need_order.specs.Children.{AreChildren, begun, begun_in, items_at, of
 use Rattle.need_order.specs.Levels.{by_levels}
 use Rattle.need_order.specs.Needs.{among, needs, needs_in, with_base, IsOrder}
 use Rattle.need_order.proofs.Numbers.{among-head, or_right}
-use Rattle.svd_model.specs.Steps.{Step, Kind, peripheral, cluster, register, field, set, value}
-use Rattle.svd_rows.proofs.Lists.{map-map}
+use Rattle.svd_model.specs.Steps.{Kind, peripheral, cluster, register, field, set, value}
 
 base_is : (elements : List Element) (bases : List (Option ℕ)) → map (λ element. element.base) elements ≡ bases → (e : ℕ) → base_at elements e ≡ get_or bases e None
 unfolding base_at

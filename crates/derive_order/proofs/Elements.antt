@@ -1,6 +1,6 @@
 -- The rows of an element with its keys and children: its children again, how many elements stand below, and how deep.
-use Rattle.std.proofs.Common.{◌≡◌, ℕ, suc, ◌+◌, Bool, true, false, ◌&&◌, ◌||◌, cond, nat_le, List, [], ◌∷◌, ◌++◌, map, filter, filter_map, length, take, drop, sum_by, Option, None, Some, option_map, refl, sym, ap, ap₂, ◌∙◌, subst, arith, append-nil, map-id}
-use Rattle.std.specs.List.{AllByRecursion, IsDistinct, cons_option, find, flat_map, list_any}
+use Rattle.std.proofs.Common.{◌≡◌, ℕ, suc, ◌+◌, Bool, true, false, ◌&&◌, ◌||◌, cond, nat_le, List, [], ◌∷◌, ◌++◌, map, filter, filter_map, length, take, sum_by, Option, Some, option_map, refl, sym, ap, ap₂, ◌∙◌, append-nil, map-id}
+use Rattle.std.specs.List.{AllByRecursion, IsDistinct, find, flat_map, list_any}
 use Rattle.std.proofs.Math.Dec.{leb-suc-suc, leb-suc-zero}
 use Rattle.std.proofs.lemmas.Bool.{true≢false}
 use Rattle.std.proofs.lemmas.List.{length-append, map-append}

@@ -1,16 +1,16 @@
 -- What each element comes to is its keys with its derived children, told by their numbers.
-use Rattle.std.proofs.Common.{◌≡◌, inl, inr, ℕ, zero, suc, ◌+◌, ◌<◌, ◌≤◌, Bool, true, false, not, ◌&&◌, ◌||◌, cond, nat_eq, nat_lt, List, [], ◌∷◌, ◌++◌, map, length, take, sum_by, get_or, Option, None, Some, option_map, refl, sym, ap, ap₂, ◌∙◌, subst, arith, append_assoc, append-nil, zero-add}
+use Rattle.std.proofs.Common.{◌≡◌, inl, inr, ℕ, zero, suc, ◌+◌, ◌<◌, Bool, true, false, not, ◌&&◌, ◌||◌, cond, nat_eq, nat_lt, List, [], ◌∷◌, ◌++◌, map, length, take, sum_by, get_or, Option, None, Some, option_map, refl, sym, ap, ap₂, ◌∙◌, subst, arith, append_assoc, append-nil, zero-add}
 use Rattle.std.specs.List.{AllByRecursion, IsDistinct, find, list_any}
 use Rattle.std.specs.Str.{bytes_eq}
 use Rattle.std.proofs.lemmas.Bool.{cases_Bool, cases_lt, eq-eqb, ne_eqb, true≢false}
-use Rattle.std.proofs.lemmas.List.{get_or_past, length-map}
+use Rattle.std.proofs.lemmas.List.{get_or_past}
 use Rattle.std.proofs.lemmas.List.Sums.{sum_by-cons}
 use Rattle.derive_order.specs.Kids.{last_step, Kid, own_kids, kids_with, kids_made, kids_at, kid_numbers, is_counted_kind, TellsCounted}
 use Rattle.derive_order.proofs.Children.{child_is}
 use Rattle.derive_order.proofs.Elements.{IsWhole, AreWhole, parts_again, amount, amount_by, is_long, long_whole, long_by, first_long}
 use Rattle.derive_order.proofs.Merged.{Apart, apart_by, same_place}
 use Rattle.derive_order.proofs.Over.{over, children_over}
-use Rattle.derive_order.proofs.Ties.{child_later, child_numbers, elements_long, needs_are, need_inside, source_inside, sources_long}
+use Rattle.derive_order.proofs.Ties.{child_numbers, needs_are, sources_long}
 use Rattle.derive_sources.specs.Graphs.{children_among, IsGraph}
 use Rattle.derive_sources.specs.Missing.{TellsSources}
 use Rattle.derive_sources.specs.Numbers.{Item, AreNumbered, Rows, path_at, item_at, is_number}

@@ -1,9 +1,8 @@
 -- Merging looks at steps alone: what stands under them may be exchanged.
 use Rattle.std.proofs.Common.{◌≡◌, ℕ, ◌+◌, Bool, true, false, not, ◌&&◌, ◌||◌, cond, List, [], ◌∷◌, ◌++◌, map, Option, None, Some, refl, sym, ap, ap₂, ◌∙◌}
-use Rattle.std.specs.List.{list_any}
 use Rattle.std.specs.Str.{bytes_eq}
 use Rattle.std.proofs.lemmas.List.{map-append}
-use Rattle.derived_rows.specs.Merging.{has_same_name, has_named, replaced_by, kept, added, merged, renumbered, children_by}
+use Rattle.derived_rows.specs.Merging.{has_named, replaced_by, kept, added, merged, renumbered, children_by}
 use Rattle.svd_model.specs.Steps.{Step, Kind, peripheral, cluster, register, field, set, value}
 
 module _ {X Y : Type 0} (f : X → Y) where

@@ -6,18 +6,16 @@ use Rattle.std.specs.Option.{option_or}
 use Rattle.std.proofs.lemmas.Bool.{cases_lt, eqb-true, or_cases, true≢false}
 use Rattle.std.proofs.lemmas.List.{get_or_past, length-map}
 use Rattle.std.proofs.lemmas.Option.{slice_get-get_or, slice_get-map, slice_get_past}
-use Rattle.derive_order.proofs.Children.{is_one_longer, children_longer, filter_places, IsChild, child_is}
+use Rattle.derive_order.proofs.Children.{is_one_longer, children_longer, filter_places, child_is}
 use Rattle.derive_sources.specs.Graphs.{parts_in, parts_at, children_among, IsGraph}
 use Rattle.derive_sources.specs.Missing.{TellsSources}
 use Rattle.derive_sources.specs.Numbers.{Item, AreNumbered, Rows, path_at, item_at, is_number}
-use Rattle.derive_sources.proofs.Seats.{as_many, earlier, fits-nothing, names_at, one-below, one_number}
+use Rattle.derive_sources.proofs.Seats.{as_many, earlier, fits-nothing, one-below}
 use Rattle.derive_sources.proofs.Told.{told_at}
 use Rattle.derived_rows.specs.Dependence.{listed, dependences}
-use Rattle.derived_rows.specs.Faults.{first_missing}
 use Rattle.derived_rows.specs.Sources.{child_paths, followed, of_kind, reached, second_try, source_among, source_names, sought_from, source_of, kind_at, ancestors, is_set_named}
 use Rattle.need_order.specs.declared.element.Element.{Element}
 use Rattle.need_order.specs.Needs.{among, needs, needs_in, is_based, is_based_in, with_base, IsWithin}
-use Rattle.need_order.proofs.Numbers.{among-cases}
 use Rattle.pac_base.specs.declared.path.Step.{Step as Written}
 use Rattle.svd_model.specs.Properties.{nearest}
 use Rattle.svd_model.specs.Stating.{paths_of, is_of}

@@ -1,5 +1,5 @@
 -- Faults that are told by numbers, and what is found among peripherals.
-use Rattle.std.proofs.Common.{◌≡◌, inl, inr, ℕ, zero, suc, ◌+◌, ◌-◌, ◌^◌, ◌<◌, ◌≤◌, min, Bool, true, false, ◌&&◌, cond, nat_eq, nat_lt, List, [], ◌∷◌, ◌++◌, map, filter, length, drop, drop-cons, get_or, Option, None, Some, option_map, is_some, slice_get, refl, sym, ap, ap₂, ◌∙◌, subst, arith}
+use Rattle.std.proofs.Common.{◌≡◌, ℕ, suc, ◌+◌, ◌<◌, ◌≤◌, Bool, true, false, ◌&&◌, cond, nat_eq, List, [], ◌∷◌, filter, length, drop, drop-cons, get_or, Option, None, Some, is_some, refl, sym, ap, ap₂, ◌∙◌, arith}
 use Rattle.std.specs.List.{find}
 use Rattle.std.specs.Option.{is_none}
 use Rattle.std.proofs.lemmas.Bool.{true≢false}
@@ -7,7 +7,6 @@ use Rattle.std.proofs.lemmas.List.{drop_all}
 use Rattle.std.proofs.lemmas.Option.{get_or_from_slice_get}
 use Rattle.derive_order.specs.Faults.{IsFaultAt}
 use Rattle.derive_order.specs.declared.fault.OrderFault.TheVariants.{Missing}
-use Rattle.derive_order.specs.Kids.{kid_numbers}
 use Rattle.derive_sources.specs.Graphs.{children_among}
 use Rattle.derive_sources.specs.Numbers.{Item, Rows, path_at, item_at, is_number, items_of, no_item}
 use Rattle.derived_rows.specs.Dependence.{deriving_paths}

@@ -1,5 +1,5 @@
 -- A walk stands where it did, one element further down or up.
-use Rattle.std.proofs.Common.{◌≡◌, inl, inr, ℕ, ◌<◌, Bool, true, false, cond, nat_eq, List, [], ◌∷◌, ◌++◌, filter, length, set, get_or, Option, None, Some, slice_get, refl, sym, ap, ap₂, ◌∙◌, subst, arith, Vec}
+use Rattle.std.proofs.Common.{◌≡◌, inl, inr, ℕ, ◌<◌, true, false, cond, List, [], ◌++◌, filter, length, set, get_or, None, Some, slice_get, refl, sym, ap, ◌∙◌, subst, arith, Vec}
 use Rattle.std.specs.List.Sorted.{IsPermutation}
 use Rattle.std.proofs.lemmas.List.Sorted.{IsPermutation-refl}
 use Rattle.std.proofs.lemmas.Bool.{cases_eq, cases_lt, eq-eqb, ne_eqb, true≢false}

@@ -1,5 +1,5 @@
 -- Why a description isn't derived, where its elements are told by their numbers.
-use Rattle.std.specs.Prelude.{◌≡◌, ⊤, List, Some}
+use Rattle.std.specs.Prelude.{⊤, List, Some}
 use Rattle.derive_order.specs.declared.fault.OrderFault.{OrderFault}
 use Rattle.derive_order.specs.declared.fault.OrderFault.TheVariants.{Missing, Cycle, TooDeep, TooMany, Memory}
 use Rattle.derive_sources.specs.Numbers.{Rows, path_at}

@@ -1,5 +1,5 @@
 //! Which children of its base each element has no more: those whose key one of its own parts has.
-ghost use Rattle.std.specs.Prelude.{◌≡◌, ◌<◌, ◌++◌, ◌↔◌, ℕ, List, [], ◌∷◌, Some, true, false, cond, nat_eq, get_or, length, IsTrue, IfOk, OnOk};
+ghost use Rattle.std.specs.Prelude.{◌≡◌, ◌<◌, ◌++◌, ◌↔◌, ℕ, List, [], ◌∷◌, Some, true, false, cond, nat_eq, get_or, length, IsTrue, IfOk, IfSome, OnOk};
 ghost use Rattle.derive_order.specs.Gone.{AreBelow, IsTold, IsWith, IsWithout, Replaces, Stands, base_at, key_of, taken_from, without};
 ghost use Rattle.derive_sources.specs.Graphs.{parts_at};
 ghost use Rattle.need_order.specs.Children.{items_at};
@@ -264,22 +264,22 @@ fn are_set(flags: &[bool]) -> bool
     true
 }
 
-/// For each element, the children of its base that it has no more. The proposed walk meets each element; where one did
-/// not, memory would be said to be wanting.
+/// For each element, the children of its base that it has no more. `None` where the walk that is proposed leaves an
+/// element out: no clause says when, or that it never does.
 pub fn all_gone(
     alloc: Global,
     elements: &[Element],
     keys: &[usize],
-) -> Result<Vec<Vec<usize>>, NoMemory>
+) -> Result<Option<Vec<Vec<usize>>>, NoMemory>
     ghost children: { ℕ → List ℕ }
     requires law { Replaces elements.now keys.now children }
     requires below { AreBelow keys.now (length elements.now) }
-    ensures { IfOk result (λ gone. (e : ℕ) → IsTold elements.now keys.now children gone.items e) }
+    ensures { IfOk result (λ told. IfSome told (λ gone. (e : ℕ) → IsTold elements.now keys.now children gone.items e)) }
 {
     let events = events(alloc, elements)?;
     let walk = walked(alloc, elements, keys, events.as_slice())?;
     if !are_set(walk.done.as_slice()) {
-        return Err(NoMemory);
+        return Ok(None);
     }
-    Ok(walk.gone)
+    Ok(Some(walk.gone))
 }

@@ -73,7 +73,7 @@ impl Store {
         ensures room { room_of self.old ≤ room_of self.new }
         ensures ok { OnOk result (bytes ≤ room_of self.new) }
     {
-        self.written.reserve(bytes)?;
+        self.written.reserve_exact(bytes)?;
         Ok(())
     }
 

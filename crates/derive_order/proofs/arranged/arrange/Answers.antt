@@ -2,9 +2,7 @@
 use Rattle.std.proofs.Common.{List, length, map, sym, subst}
 use Rattle.derive_order.proofs.Circles.{circle_told, no_circle}
 use Rattle.derive_order.proofs.Ties.{within}
-use Rattle.derive_order.specs.Faults.{TellsCycle}
 use Rattle.derive_sources.specs.Entries.{plain}
-use Rattle.derived_rows.specs.Dependence.{HasNoCircle}
 use Rattle.need_order.specs.declared.element.Element.{Element}
 use Rattle.need_order.specs.Needs.{IsFaultOf, HasNoCircle as HasNone, IsWithin, needs}
 use Rattle.derive_order.proofs.arranged.arrange.Goals as goal

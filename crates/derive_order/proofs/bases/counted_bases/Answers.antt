@@ -1,8 +1,8 @@
-use Rattle.std.proofs.Common.{◌≡◌, ◌∙◌, ◌<◌, ℕ, ◌+◌, List, None, Option, map, length, get_or, ap, ap₂, option_map, subst, sym, arith}
+use Rattle.std.proofs.Common.{◌≡◌, ◌∙◌, ℕ, ◌+◌, None, Option, map, length, get_or, ap, ap₂, sym, arith}
 use Rattle.std.proofs.lemmas.List.{length-map, length_push}
 use Rattle.derive_order.specs.Counting.{counted_base}
 use Rattle.derive_order.proofs.Lists.{each_more}
-use Rattle.derive_sources.specs.Entries.{plain, kind_of}
+use Rattle.derive_sources.specs.Entries.{plain}
 use Rattle.derive_sources.specs.Graphs.{children_among}
 use Rattle.derive_sources.specs.Numbers.{Item, item_at}
 use Rattle.need_order.specs.declared.element.Element.{Element}

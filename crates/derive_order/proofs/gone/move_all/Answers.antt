@@ -1,4 +1,4 @@
-use Rattle.std.proofs.Common.{◌∙◌, ◌++◌, get_or, ap, refl, sym, arith}
+use Rattle.std.proofs.Common.{◌∙◌, ◌++◌, get_or, ap, refl, arith}
 use Rattle.derive_order.specs.Gone.{without}
 use Rattle.derive_order.proofs.Moving.{taken_end, taken_step, tops_step}
 use Rattle.need_order.specs.Children.{items_at}

@@ -1,4 +1,4 @@
-use Rattle.std.proofs.Common.{◌∙◌, ◌<◌, ◌++◌, ◌∷◌, [], cond, get_or, nat_eq, length, ap, refl, sym, subst, arith}
+use Rattle.std.proofs.Common.{◌∙◌, ◌++◌, ◌∷◌, [], cond, get_or, nat_eq, ap, refl, arith}
 use Rattle.derive_order.proofs.Moving.{with_step}
 use Rattle.need_order.specs.Children.{items_at}
 use Rattle.derive_order.proofs.gone.push_all.Goals as goal

@@ -1,4 +1,4 @@
-use Rattle.std.proofs.Common.{◌∙◌, map, take, length, ap, sym, arith}
+use Rattle.std.proofs.Common.{◌∙◌, map, ap, arith}
 use Rattle.std.proofs.lemmas.List.{length-map, take_all}
 use Rattle.derive_order.proofs.Names.{are_keys, key_in}
 use Rattle.derive_sources.specs.Entries.{plain}
