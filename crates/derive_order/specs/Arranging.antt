@@ -1,0 +1,31 @@
+-- Elements in an order behind what each needs, and as counting takes them.
+use Rattle.std.specs.Prelude.{◌≡◌, ℕ, ◌<◌, List, length, Option, Vec}
+use Rattle.derive_order.specs.Kids.{kid_numbers}
+use Rattle.derive_sources.specs.Graphs.{IsGraph}
+use Rattle.derive_sources.specs.Missing.{TellsSources}
+use Rattle.derive_sources.specs.Numbers.{AreNumbered, Item, Rows}
+use Rattle.derived_rows.specs.Dependence.{HasNoCircle}
+use Rattle.need_order.specs.declared.element.Element.{Element}
+use Rattle.need_order.specs.Children.{AreChildren}
+use Rattle.need_order.specs.Needs.{IsOrder, needs}
+
+-- flat rows, with the numbers of the derived children of each element
+pub record Known : Type 0 where
+  pub all : Rows
+  pub children : ℕ → List ℕ
+
+-- the elements of the rows have their sources and stand in an order; no circle stands
+pub record IsArranged (known : Known) (items : List Item) (sources : List (Option ℕ)) (elements : List Element) (order : List ℕ) : Type 0 where
+  pub some : 0 < length items
+  pub numbered : AreNumbered known.all items
+  pub found : TellsSources known.all sources
+  pub graph : IsGraph items sources elements
+  pub ordered : IsOrder (needs elements) (length elements) order
+  pub no_circle : HasNoCircle known.all
+  pub children : known.children ≡ kid_numbers known.all items sources
+
+-- the elements of these items, each with that as which it begins, with its own children and with those that it has no more
+pub record AreBegun {Z : Type 0} (children : ℕ → List ℕ) (items : List Item) (elements : List Element) (gone : List (Vec ℕ Z)) (order : List ℕ) : Type 0 where
+  pub stand : AreChildren elements gone children
+  pub ordered : IsOrder (needs elements) (length elements) order
+  pub long : length elements ≡ length items
