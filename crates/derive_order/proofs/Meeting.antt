@@ -268,9 +268,9 @@ less_left n done e h old new ds is few =
     times u m = omega arith
 
 pub less_by : {Z : Type 0} (elements : List Element) (lists : List (Vec ℕ Z)) → StandByBases elements (length elements) lists → (old new : Walk) (e : ℕ) (todo middle todo' : List (Option ℕ)) (ds : List ℕ) → e < length elements → get_or old.done.items e true ≡ false → IsAt new (Some e) (set old.done.items e true)
-    → middle ≡ todo ++ None ∷ [] → ds ≡ items_at lists e → todo' ≡ middle ++ map Some ds → left_of elements new.done.items todo' ≤ left_of elements old.done.items todo
+    → middle ≡ todo ++ None ∷ [] → ds ≡ items_at lists e → todo' ≡ middle ++ map Some ds → left_of elements new todo' ≤ left_of elements old todo
 less_by elements lists stand old new e todo middle todo' ds inside undone at pushed is added =
-    subst (λ done. length (filter not done) * (length elements + 2) + length todo' ≤ left_of elements old.done.items todo) (sym at.1)
+    subst (λ done. length (filter not done) * (length elements + 2) + length todo' ≤ left_of elements old todo) (sym at.1)
     (less_left (length elements) old.done.items e undone (length todo) (length todo') (length ds)
     (ap (λ xs. length xs) added ∙ length-append middle (map Some ds) ∙ ap₂ (λ a b. a + b) (ap (λ xs. length xs) pushed ∙ length_push todo None) (length-map ds Some))
     (omega (arith, stand.short e (omega (arith, inside)), ap (λ xs. length xs) is)))

@@ -47,5 +47,5 @@ pub record Goes (elements : List Element) (done : List Bool) (current : Option �
   pub met : (e : ℕ) → e < length elements → IsReached done (base_at elements e) → (get_or done e false ≡ true) ⊎ (is_next e steps ≡ true)
 
 -- how much is still to be done, at most
-abbrev pub left_of : List Element → List Bool → List (Option ℕ) → ℕ
-left_of elements done steps = length (filter not done) * (length elements + 2) + length steps
+abbrev pub left_of : List Element → Walk → List (Option ℕ) → ℕ
+left_of elements walk steps = length (filter not walk.done.items) * (length elements + 2) + length steps

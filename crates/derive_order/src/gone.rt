@@ -1,6 +1,6 @@
 //! Which children of its base each element has no more: those whose key one of its own parts has.
-ghost use Rattle.std.specs.Prelude.{◌≡◌, ◌<◌, ◌≤◌, ◌++◌, ℕ, List, [], ◌∷◌, None, Some, true, false, cond, nat_eq, get_or, unwrap_or, length, map, replicate, reverse, set, IfOk, OnOk};
-ghost use Rattle.derive_order.specs.Gone.{AreBelow, IsTold, IsWith, IsWithout, Replaces, Stands, base_at, key_of, taken_from, without};
+ghost use Rattle.std.specs.Prelude.{◌≡◌, ◌<◌, ◌≤◌, ◌++◌, ℕ, List, [], ◌∷◌, None, Some, true, false, get_or, unwrap_or, length, map, replicate, reverse, set, IfOk, OnOk};
+ghost use Rattle.derive_order.specs.Gone.{AreBelow, IsPushed, IsTold, IsWith, IsWithout, Replaces, Stands, base_at, key_of, taken_from, without};
 ghost use Rattle.derive_order.specs.Walking.{Goes, HasBasesWithin, HasOrder, IsAt, StandByBases, left_of};
 ghost use Rattle.derive_sources.specs.Graphs.{parts_at};
 ghost use Rattle.need_order.specs.Children.{items_at};
@@ -88,7 +88,7 @@ fn move_all(
 
 /// Puts a number under a key.
 fn push_at(tops: &mut Vec<Vec<usize>>, key: usize, number: usize) -> Result<(), NoMemory>
-    ensures tops { OnOk result ((id : ℕ) → id < length tops.old.items → items_at tops.new.items id ≡ cond (nat_eq id key) (items_at tops.old.items id ++ number ∷ []) (items_at tops.old.items id)) }
+    ensures tops { OnOk result (IsPushed key number tops.old.items tops.new.items) }
     ensures long { OnOk result (length tops.new.items ≡ length tops.old.items) }
 {
     match tops.get_mut(key) {
@@ -264,7 +264,7 @@ fn go(
     requires goes { Goes elements.now walk.old.done.items walk.old.current (step ∷ reverse todo.old.items) }
     ensures stands { OnOk result (Stands elements.now keys.now children walk.new) }
     ensures goes { OnOk result (Goes elements.now walk.new.done.items walk.new.current (reverse todo.new.items)) }
-    ensures less { OnOk result (left_of elements.now walk.new.done.items todo.new.items ≤ left_of elements.now walk.old.done.items todo.old.items) }
+    ensures less { OnOk result (left_of elements.now walk.new todo.new.items ≤ left_of elements.now walk.old todo.old.items) }
 {
     match step {
         Some(number) => {

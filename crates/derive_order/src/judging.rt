@@ -1,13 +1,12 @@
 //! Why a description isn't derived, or that nothing stands against it.
 ghost use Rattle.std.specs.Prelude.{◌≡◌, ◌<◌, None, map, length, IfOk, IfErr, OnOk};
-ghost use Rattle.derive_order.specs.Arranging.{IsArranged, Known};
+ghost use Rattle.derive_order.specs.Arranging.{AreArranged, IsGraphOf, IsInOrder, Known};
 ghost use Rattle.derive_order.specs.Faults.{IsFaultAt};
 ghost use Rattle.derive_sources.specs.Entries.{plain};
 ghost use Rattle.derive_sources.specs.Graphs.{IsGraph};
 ghost use Rattle.derive_sources.specs.Missing.{IsMissing, TellsSources};
 ghost use Rattle.derive_sources.specs.Numbers.{AreNumbered, Rows, items_of};
 ghost use Rattle.derived_rows.specs.Faults.{IsFaultless, first_missing};
-ghost use Rattle.need_order.specs.Needs.{IsOrder, needs};
 ghost use Rattle.svd_model.specs.Facts.{IsDescribed};
 ghost use Rattle.svd_model.specs.Trees.{device_rows, device_tree};
 
@@ -47,7 +46,7 @@ fn within_limits(
     arranged: &Arranged,
 ) -> Result<(), OrderFault>
     ghost known: { Known }
-    requires arranged { IsArranged known (map plain entries.now) sources.now arranged.now.elements.items arranged.now.order.items }
+    requires arranged { AreArranged known entries.now sources.now arranged.now }
     requires whole { first_missing known.all ≡ None }
     ensures faultless { OnOk result (IsFaultless known.all) }
     ensures fault { IfErr result (IsFaultAt known.all) }
@@ -75,7 +74,7 @@ fn judge(
     requires found { TellsSources all sources.now }
     requires whole { first_missing all ≡ None }
     ensures graph { IfOk result (λ made. IsGraph (map plain entries.now) sources.now made.elements.items) }
-    ensures order { IfOk result (λ made. IsOrder (needs made.elements.items) (length made.elements.items) made.order.items) }
+    ensures order { IfOk result IsInOrder }
     ensures faultless { OnOk result (IsFaultless all) }
     ensures fault { IfErr result (IsFaultAt all) }
 {
@@ -90,8 +89,8 @@ fn judged_rows(alloc: Global, device: &Device) -> Result<Derivable<'_>, OrderFau
     requires fact { IsDescribed device.now }
     ensures listed { IfOk result (λ made. map plain made.sourced.entries.items ≡ items_of (device_tree device.now)) }
     ensures found { IfOk result (λ made. TellsSources all made.sourced.sources.items) }
-    ensures graph { IfOk result (λ made. IsGraph (map plain made.sourced.entries.items) made.sourced.sources.items made.arranged.elements.items) }
-    ensures order { IfOk result (λ made. IsOrder (needs made.arranged.elements.items) (length made.arranged.elements.items) made.arranged.order.items) }
+    ensures graph { IfOk result (λ made. IsGraphOf made.sourced made.arranged) }
+    ensures order { IfOk result (λ made. IsInOrder made.arranged) }
     ensures faultless { OnOk result (IsFaultless all) }
     ensures fault { IfErr result (IsFaultAt all) }
 {
@@ -116,8 +115,8 @@ pub fn judged(alloc: Global, device: &Device) -> Result<Derivable<'_>, OrderFaul
     requires { IsDescribed device.now }
     ensures listed { IfOk result (λ made. map plain made.sourced.entries.items ≡ items_of (device_tree device.now)) }
     ensures found { IfOk result (λ made. TellsSources (device_rows device.now) made.sourced.sources.items) }
-    ensures graph { IfOk result (λ made. IsGraph (map plain made.sourced.entries.items) made.sourced.sources.items made.arranged.elements.items) }
-    ensures order { IfOk result (λ made. IsOrder (needs made.arranged.elements.items) (length made.arranged.elements.items) made.arranged.order.items) }
+    ensures graph { IfOk result (λ made. IsGraphOf made.sourced made.arranged) }
+    ensures order { IfOk result (λ made. IsInOrder made.arranged) }
     ensures faultless { OnOk result (IsFaultless (device_rows device.now)) }
     ensures fault { IfErr result (IsFaultAt (device_rows device.now)) }
 {

@@ -1,7 +1,7 @@
 //! How deep derived elements nest, and how many there are: found by their numbers, along their order.
 ghost use Rattle.std.specs.Prelude.{◌≡◌, ◌<◌, ◌&&◌, ℕ, List, None, false, get_or, map, option_map, length, IfOk};
 ghost use Rattle.std.specs.List.{find};
-ghost use Rattle.derive_order.specs.Arranging.{AreBegun, IsArranged, Known};
+ghost use Rattle.derive_order.specs.Arranging.{AreArranged, BeginAs, Known};
 ghost use Rattle.derive_sources.specs.Entries.{plain};
 ghost use Rattle.derive_sources.specs.Graphs.{children_among};
 ghost use Rattle.derive_sources.specs.Numbers.{path_at, item_at, is_number};
@@ -36,8 +36,8 @@ pub(crate) fn begun(
     arranged: &Arranged,
 ) -> Result<Begins, NoMemory>
     ghost known: { Known }
-    requires { IsArranged known (map plain entries.now) sources.now arranged.now.elements.items arranged.now.order.items }
-    ensures { IfOk result (λ made. AreBegun known.children (map plain entries.now) made.elements.items made.gone.items arranged.now.order.items) }
+    requires { AreArranged known entries.now sources.now arranged.now }
+    ensures { IfOk result (BeginAs known entries.now arranged.now) }
 {
     let keys = name_keys(alloc, entries)?;
     let bases = counted_bases(alloc, entries, arranged.elements.as_slice(), sources)?;
@@ -96,8 +96,8 @@ pub(crate) fn first_deep(
     begun: &Begins,
 ) -> Result<Option<usize>, NoMemory>
     ghost known: { Known }
-    requires arranged { IsArranged known (map plain entries.now) sources.now arranged.now.elements.items arranged.now.order.items }
-    requires begun { AreBegun known.children (map plain entries.now) begun.now.elements.items begun.now.gone.items arranged.now.order.items }
+    requires arranged { AreArranged known entries.now sources.now arranged.now }
+    requires begun { BeginAs known entries.now arranged.now begun.now }
     ensures { IfOk result (λ found. option_map (path_at known.all) found ≡ first_deep known.all) }
 {
     let flags = deep(
@@ -129,8 +129,8 @@ pub(crate) fn amount(
     begun: &Begins,
 ) -> Result<u64, NoMemory>
     ghost known: { Known }
-    requires arranged { IsArranged known (map plain entries.now) sources.now arranged.now.elements.items arranged.now.order.items }
-    requires begun { AreBegun known.children (map plain entries.now) begun.now.elements.items begun.now.gone.items arranged.now.order.items }
+    requires arranged { AreArranged known entries.now sources.now arranged.now }
+    requires begun { BeginAs known entries.now arranged.now begun.now }
     ensures { IfOk result (λ count. count ≡ told_count (elements_of (derived_rows known.all))) }
 {
     let flags = counted_flags(alloc, entries)?;

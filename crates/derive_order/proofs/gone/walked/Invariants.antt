@@ -17,4 +17,4 @@ invariant-loop-step g l = record {
 }
 
 abbrev pub decreases-loop-step : goal.decreases-loop-step
-decreases-loop-step g l = left_of l.elements l.walk.done.items l.todo.items
+decreases-loop-step g l = left_of l.elements l.walk l.todo.items
