@@ -17,12 +17,12 @@ use derive_sources::{Entry, SourceFault, Sourced, sources_of};
 use std::alloc::Global;
 use svd_model::Device;
 
-/// The elements of a device that can be derived.
+/// What deriving goes by, of a device against which nothing stands: its elements, and their order.
 #[derive(Drop)]
 pub struct Derivable<'a> {
     /// The elements in document order, with the source of each.
     pub sourced: Sourced<'a>,
-    /// What each depends on, and an order of them.
+    /// What each depends on, and an order in which they can be derived.
     pub arranged: Arranged,
 }
 
