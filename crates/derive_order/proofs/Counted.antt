@@ -58,7 +58,7 @@ order_less needs less n m order same fewer h = subst (λ k. IsOrder less k order
 
 module _ (all : Rows) (items : List Item) (numbered : AreNumbered all items) (sources : List (Option ℕ)) (tells : TellsSources all sources) (elements : List Element) (graph : IsGraph items sources elements) (order : List ℕ) (ordered : IsOrder (needs elements) (length items) order) (no_circle : HasNoCircle all) where
   module _ (bases : List (Option ℕ)) (are : AreBases items sources bases) (begins : List Element) (begun_graph : IsGraph items bases begins) where
-    begins_long : length begins ≡ length items
+    pub begins_long : length begins ≡ length items
     begins_long = sym (length-map begins (λ (element : Element). element.base)) ∙ ap (λ l. length l) begun_graph.bases ∙ are.long
 
     kept_base : (is : Bool) (parts : List ℕ) (source : Option ℕ) (d : ℕ) → among d (with_base (base_with is parts source) parts) ≡ true → among d (with_base source parts) ≡ true

@@ -9,7 +9,9 @@ pub mod Shuffles
 pub mod Replaced
 pub mod Moving
 pub mod Walks
+pub mod Meeting
 pub mod Names
 pub mod Lists
 pub mod Counted
 pub mod Told
+pub mod Judgements

@@ -62,6 +62,10 @@ taken_from keys tops (part ∷ parts) = tops (key_of keys part) ++ taken_from ke
 abbrev pub IsWithout : {Z : Type 0} → List ℕ → List ℕ → List (Vec ℕ Z) → List (Vec ℕ Z) → Type 0
 IsWithout keys parts old new = (id : ℕ) → items_at new id ≡ cond (is_key_of keys parts id) [] (items_at old id)
 
+-- the number stands behind the others under a key
+abbrev pub IsPushed : {Z : Type 0} → ℕ → ℕ → List (Vec ℕ Z) → List (Vec ℕ Z) → Type 0
+IsPushed key number old new = (id : ℕ) → id < length old → items_at new id ≡ cond (nat_eq id key) (items_at old id ++ number ∷ []) (items_at old id)
+
 -- each of these stands behind the others of its key
 abbrev pub IsWith : {Z : Type 0} → List ℕ → List ℕ → List (Vec ℕ Z) → List (Vec ℕ Z) → Type 0
 IsWith keys numbers old new = (id : ℕ) → id < length old → items_at new id ≡ items_at old id ++ filter (has_key keys id) numbers

@@ -1,4 +1,5 @@
 ghost use Rattle.std.specs.Prelude.{◌≡◌, None, length, map, IfOk, IfErr, OnOk};
+ghost use Rattle.derive_order.specs.Arranging.{IsInOrder};
 ghost use Rattle.derive_order.specs.Faults.{IsFaultAt, TellsCycle};
 ghost use Rattle.derive_sources.specs.Entries.{plain};
 ghost use Rattle.derive_sources.specs.Graphs.{IsGraph};
@@ -6,7 +7,6 @@ ghost use Rattle.derive_sources.specs.Missing.{TellsSources};
 ghost use Rattle.derive_sources.specs.Numbers.{AreNumbered, Rows};
 ghost use Rattle.derived_rows.specs.Dependence.{HasNoCircle};
 ghost use Rattle.derived_rows.specs.Faults.{first_missing};
-ghost use Rattle.need_order.specs.Needs.{IsOrder, needs};
 
 use crate::fault::OrderFault;
 use derive_sources::{Entry, needs_of};
@@ -49,7 +49,7 @@ pub fn arrange(
     requires found { TellsSources all sources.now }
     requires whole { first_missing all ≡ None }
     ensures graph { IfOk result (λ made. IsGraph (map plain entries.now) sources.now made.elements.items) }
-    ensures order { IfOk result (λ made. IsOrder (needs made.elements.items) (length made.elements.items) made.order.items) }
+    ensures order { IfOk result IsInOrder }
     ensures no_circle { OnOk result (HasNoCircle all) }
     ensures circle { IfErr result (IsFaultAt all) }
 {

@@ -1,10 +1,10 @@
 //! Which children of its base each element has no more: those whose key one of its own parts has.
-ghost use Rattle.std.specs.Prelude.{◌≡◌, ◌<◌, ◌++◌, ◌↔◌, ℕ, List, [], ◌∷◌, Some, true, false, cond, nat_eq, get_or, length, IsTrue, IfOk, IfSome, OnOk};
-ghost use Rattle.derive_order.specs.Gone.{AreBelow, IsTold, IsWith, IsWithout, Replaces, Stands, base_at, key_of, taken_from, without};
+ghost use Rattle.std.specs.Prelude.{◌≡◌, ◌<◌, ◌≤◌, ◌++◌, ℕ, List, [], ◌∷◌, None, Some, true, false, get_or, unwrap_or, length, map, replicate, reverse, set, IfOk, OnOk};
+ghost use Rattle.derive_order.specs.Gone.{AreBelow, IsPushed, IsTold, IsWith, IsWithout, Replaces, Stands, base_at, key_of, taken_from, without};
+ghost use Rattle.derive_order.specs.Walking.{Goes, HasBasesWithin, HasOrder, IsAt, StandByBases, left_of};
 ghost use Rattle.derive_sources.specs.Graphs.{parts_at};
 ghost use Rattle.need_order.specs.Children.{items_at};
 
-use crate::hint::events;
 use need_order::Element;
 use pac_base::NoMemory;
 use std::alloc::Global;
@@ -88,7 +88,7 @@ fn move_all(
 
 /// Puts a number under a key.
 fn push_at(tops: &mut Vec<Vec<usize>>, key: usize, number: usize) -> Result<(), NoMemory>
-    ensures tops { OnOk result ((id : ℕ) → id < length tops.old.items → items_at tops.new.items id ≡ cond (nat_eq id key) (items_at tops.old.items id ++ number ∷ []) (items_at tops.old.items id)) }
+    ensures tops { OnOk result (IsPushed key number tops.old.items tops.new.items) }
     ensures long { OnOk result (length tops.new.items ≡ length tops.old.items) }
 {
     match tops.get_mut(key) {
@@ -138,7 +138,8 @@ impl Walk {
     /// A walk that is at no element.
     fn new(alloc: Global, elements: &[Element], keys: &[usize]) -> Result<Walk, NoMemory>
         ghost children: { ℕ → List ℕ }
-        ensures { IfOk result (Stands elements.now keys.now children) }
+        ensures stands { IfOk result (Stands elements.now keys.now children) }
+        ensures at { IfOk result (λ walk. IsAt walk None (replicate (length elements.now) false)) }
     {
         Ok(Walk {
             current: None,
@@ -162,7 +163,8 @@ impl Walk {
         requires stands { Stands elements.now keys.now children self.old }
         requires inside { number < length elements.now }
         requires here { base_at elements.now number ≡ self.old.current }
-        ensures { OnOk result (Stands elements.now keys.now children self.new) }
+        ensures stands { OnOk result (Stands elements.now keys.now children self.new) }
+        ensures at { OnOk result (IsAt self.new (Some number) (set self.old.done.items number true)) }
     {
         let parts = parts_of(elements, number);
         let mut taken = Vec::new(alloc);
@@ -187,7 +189,8 @@ impl Walk {
         requires below { AreBelow keys.now (length elements.now) }
         requires stands { Stands elements.now keys.now children self.old }
         requires here { self.old.current ≡ Some number }
-        ensures { OnOk result (Stands elements.now keys.now children self.new) }
+        ensures stands { OnOk result (Stands elements.now keys.now children self.new) }
+        ensures at { OnOk result (IsAt self.new (base_at elements.now number) self.old.done.items) }
     {
         let mut old = Vec::new(alloc);
         move_all(&mut self.tops, keys, parts_of(elements, number), &mut old)?;
@@ -197,34 +200,80 @@ impl Walk {
     }
 }
 
-fn same_base(one: Option<usize>, other: Option<usize>) -> bool
-    ensures { IsTrue result ↔ (one ≡ other) }
+/// Whether an element was met, or there is none.
+fn is_met(done: &[bool], number: usize) -> bool
+    ensures { result ≡ get_or done.now number true }
 {
-    one == other
+    match done.get(number) {
+        Some(met) => *met,
+        None => true,
+    }
 }
 
-/// One step of a walk, where it can be made from here: down to an element from its base, or up.
+/// Where elements stand that have this base: under its number, and under the number of all elements where they have none.
+fn seat_of(base: Option<usize>, count: usize) -> usize
+    ensures { result ≡ unwrap_or base count }
+{
+    match base {
+        Some(base) => base,
+        None => count,
+    }
+}
+
+/// The elements under their bases.
+fn by_bases(alloc: Global, elements: &[Element]) -> Result<Vec<Vec<usize>>, NoMemory>
+    ensures { IfOk result (λ made. StandByBases elements.now (length elements.now) made.items) }
+{
+    let mut made = empty_lists(alloc, elements.len() + 1)?;
+    for number in 0..elements.len() {
+        push_at(
+            &mut made,
+            seat_of(base_of(elements, number), elements.len()),
+            number,
+        )?;
+    }
+    Ok(made)
+}
+
+/// Adds steps down to these.
+fn add_steps(todo: &mut Vec<Option<usize>>, numbers: &[usize]) -> Result<(), NoMemory>
+    ensures { OnOk result (todo.new.items ≡ todo.old.items ++ map Some numbers.now) }
+{
+    for number in numbers {
+        todo.push(Some(*number))?;
+    }
+    Ok(())
+}
+
+/// One step of a walk: down to an element from its base, if it wasn't met yet, or up.
 fn go(
     alloc: Global,
     elements: &[Element],
     keys: &[usize],
+    begun: &[Vec<usize>],
     walk: &mut Walk,
-    event: Option<usize>,
+    todo: &mut Vec<Option<usize>>,
+    step: Option<usize>,
 ) -> Result<(), NoMemory>
     ghost children: { ℕ → List ℕ }
     requires law { Replaces elements.now keys.now children }
     requires below { AreBelow keys.now (length elements.now) }
+    requires bases { HasBasesWithin elements.now }
+    requires begun { StandByBases elements.now (length elements.now) begun.now }
     requires stands { Stands elements.now keys.now children walk.old }
-    ensures { OnOk result (Stands elements.now keys.now children walk.new) }
+    requires goes { Goes elements.now walk.old.done.items walk.old.current (step ∷ reverse todo.old.items) }
+    ensures stands { OnOk result (Stands elements.now keys.now children walk.new) }
+    ensures goes { OnOk result (Goes elements.now walk.new.done.items walk.new.current (reverse todo.new.items)) }
+    ensures less { OnOk result (left_of elements.now walk.new todo.new.items ≤ left_of elements.now walk.old todo.old.items) }
 {
-    match event {
+    match step {
         Some(number) => {
-            if number < elements.len() {
-                if same_base(base_of(elements, number), walk.current) {
-                    return walk.enter(alloc, elements, keys, number);
-                }
+            if is_met(walk.done.as_slice(), number) {
+                return Ok(());
             }
-            Ok(())
+            walk.enter(alloc, elements, keys, number)?;
+            todo.push(None)?;
+            add_steps(todo, list_at(begun, number))
         }
         None => match walk.current {
             Some(number) => walk.leave(alloc, elements, keys, number),
@@ -233,53 +282,44 @@ fn go(
     }
 }
 
-/// A whole walk.
-fn walked(
-    alloc: Global,
-    elements: &[Element],
-    keys: &[usize],
-    events: &[Option<usize>],
-) -> Result<Walk, NoMemory>
+/// A walk that met all elements.
+fn walked(alloc: Global, elements: &[Element], keys: &[usize]) -> Result<Walk, NoMemory>
     ghost children: { ℕ → List ℕ }
     requires law { Replaces elements.now keys.now children }
     requires below { AreBelow keys.now (length elements.now) }
-    ensures { IfOk result (Stands elements.now keys.now children) }
+    requires bases { HasBasesWithin elements.now }
+    ensures stands { IfOk result (Stands elements.now keys.now children) }
+    ensures goes { IfOk result (λ walk. Goes elements.now walk.done.items walk.current []) }
 {
+    let begun = by_bases(alloc, elements)?;
     let mut walk = Walk::new(alloc, elements, keys)?;
-    for event in events {
-        go(alloc, elements, keys, &mut walk, *event)?;
+    let mut todo = Vec::new(alloc);
+    add_steps(&mut todo, list_at(begun.as_slice(), elements.len()))?;
+    while let Some(step) = todo.pop() {
+        go(
+            alloc,
+            elements,
+            keys,
+            begun.as_slice(),
+            &mut walk,
+            &mut todo,
+            step,
+        )?;
     }
     Ok(walk)
 }
 
-/// Whether all flags are set.
-fn are_set(flags: &[bool]) -> bool
-    ensures { result ≡ true → (e : ℕ) → e < length flags.now → get_or flags.now e false ≡ true }
-{
-    for flag in flags {
-        if !*flag {
-            return false;
-        }
-    }
-    true
-}
-
-/// For each element, the children of its base that it has no more. `None` where the walk that is proposed leaves an
-/// element out: no clause says when, or that it never does.
+/// For each element, the children of its base that it has no more, in some order.
 pub fn all_gone(
     alloc: Global,
     elements: &[Element],
     keys: &[usize],
-) -> Result<Option<Vec<Vec<usize>>>, NoMemory>
+) -> Result<Vec<Vec<usize>>, NoMemory>
     ghost children: { ℕ → List ℕ }
     requires law { Replaces elements.now keys.now children }
     requires below { AreBelow keys.now (length elements.now) }
-    ensures { IfOk result (λ told. IfSome told (λ gone. (e : ℕ) → IsTold elements.now keys.now children gone.items e)) }
+    requires order { HasOrder elements.now }
+    ensures { IfOk result (λ gone. (e : ℕ) → IsTold elements.now keys.now children gone.items e) }
 {
-    let events = events(alloc, elements)?;
-    let walk = walked(alloc, elements, keys, events.as_slice())?;
-    if !are_set(walk.done.as_slice()) {
-        return Ok(None);
-    }
-    Ok(Some(walk.gone))
+    Ok(walked(alloc, elements, keys)?.gone)
 }

@@ -6,11 +6,13 @@ mod arranged;
 mod bases;
 mod fault;
 mod gone;
-mod hint;
+mod judging;
 mod keys;
+mod limits;
 
 pub use arranged::{Arranged, arrange};
 pub use bases::{counted_bases, counted_flags};
 pub use fault::OrderFault;
 pub use gone::all_gone;
+pub use judging::{Derivable, judged};
 pub use keys::name_keys;

@@ -4,8 +4,8 @@ use Rattle.derive_order.proofs.Walks.{enters}
 use Rattle.need_order.specs.Children.{items_at}
 use Rattle.derive_order.proofs.gone.Walk.enter.Goals as goal
 
-pub returns : goal.returns
-returns g c =
+pub returns-clause-stands : goal.returns-clause-stands
+returns-clause-stands g c =
     enters c.args.elements.now c.args.keys.now g.children c.requires.0 c.requires.1.0 c.args.self.now _ c.args.number c.requires.1.1.0 c.move_all.new.tops.items c.move_all.new.taken c.requires.1.1.1.0 c.requires.1.1.1.1
     (subst (λ (parts : List ℕ). IsWithout c.args.keys.now parts c.args.self.now.tops.items c.move_all.new.tops.items) c.parts_of-parts.ensures c.in_ok-move_all.ensures.tops)
     c.in_ok-move_all.ensures.long
