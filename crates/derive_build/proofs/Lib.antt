@@ -2,3 +2,13 @@ pub mod Listed
 pub mod Taken
 pub mod Spelling
 pub mod Named
+pub mod Told
+pub mod Filled
+pub mod Paths
+pub mod Numbered
+pub mod Parts
+pub mod Nested
+pub mod Graph
+pub mod Stands
+pub mod Made
+pub mod Clusters

@@ -1,3 +1,6 @@
 pub mod Nodes
 pub mod Taking
 pub mod Children
+pub mod Tables
+pub mod Filling
+pub mod Making

@@ -7,7 +7,11 @@ use Rattle.derive_build.specs.declared.own.Own.TheVariants as own
 use Rattle.svd_model.specs.declared.device.Child.{Child}
 use Rattle.svd_model.specs.declared.device.Cluster.{Cluster, out-Cluster}
 use Rattle.svd_model.specs.declared.device.Dim.{Dim}
+use Rattle.svd_model.specs.declared.device.Field.{Field}
 use Rattle.svd_model.specs.declared.device.Item.{Item}
+use Rattle.svd_model.specs.declared.device.Peripheral.{Peripheral}
+use Rattle.svd_model.specs.declared.device.Register.{Register}
+use Rattle.svd_model.specs.declared.device.Values.{Values}
 use Rattle.svd_model.specs.Keys.{Key}
 use Rattle.svd_model.specs.Trees.{device_places, peripheral_places, cluster_places, register_places, field_places, set_places, value_places}
 use Rattle.svd_rows.specs.Ranks.{stated}
@@ -16,19 +20,32 @@ use Rattle.svd_rows.specs.Ranks.{stated}
 abbrev pub dim_by : Keys → Dim
 dim_by keys = record { count = keys.count; step = keys.step; index = option_map (λ index. index.now) keys.index }
 
--- the places of the keys of an element: its source, its base or offset are its own
+-- the places of the keys of an element with these: its source, its base or offset are its own
+abbrev pub peripheral_by : Peripheral → Keys → List (Option Key)
+peripheral_by element keys = peripheral_places (record { derived = element.derived; dim = dim_by keys; base = element.base; props = keys.props; children = element.children })
+
+abbrev pub cluster_by : Cluster → Keys → List (Option Key)
+cluster_by element keys =
+    cluster_places {A = Child} {B = Cluster} {C = Item} (record { derived = (out-Cluster element).derived; dim = dim_by keys; offset = (out-Cluster element).offset; alternate = option_map (λ name. name.now) keys.alternate; props = keys.props; children = (out-Cluster element).children })
+
+abbrev pub register_by : Register → Keys → List (Option Key)
+register_by element keys =
+    register_places (record { derived = element.derived; dim = dim_by keys; offset = element.offset; alternate = option_map (λ name. name.now) keys.alternate; group = option_map (λ name. name.now) keys.group; props = keys.props; kind = keys.kind; action = keys.action; fields = element.fields })
+
+abbrev pub field_by : Field → Keys → List (Option Key)
+field_by element keys =
+    field_places (record { derived = element.derived; dim = dim_by keys; place = keys.place; access = keys.props.access; kind = keys.kind; action = keys.action; values = element.values })
+
+abbrev pub set_by : Values → Keys → List (Option Key)
+set_by element keys = set_places (record { derived = element.derived; name = element.name; usage = keys.usage; items = element.items })
+
 abbrev pub places_by : Own → Keys → List (Option Key)
 places_by (own.Device device) keys = device_places device.now
-places_by (own.Peripheral key element) keys =
-    peripheral_places (record { derived = element.now.derived; dim = dim_by keys; base = element.now.base; props = keys.props; children = element.now.children })
-places_by (own.Cluster key element) keys =
-    cluster_places {A = Child} {B = Cluster} {C = Item} (record { derived = (out-Cluster element.now).derived; dim = dim_by keys; offset = (out-Cluster element.now).offset; alternate = option_map (λ name. name.now) keys.alternate; props = keys.props; children = (out-Cluster element.now).children })
-places_by (own.Register key element) keys =
-    register_places (record { derived = element.now.derived; dim = dim_by keys; offset = element.now.offset; alternate = option_map (λ name. name.now) keys.alternate; group = option_map (λ name. name.now) keys.group; props = keys.props; kind = keys.kind; action = keys.action; fields = element.now.fields })
-places_by (own.Field key element) keys =
-    field_places (record { derived = element.now.derived; dim = dim_by keys; place = keys.place; access = keys.props.access; kind = keys.kind; action = keys.action; values = element.now.values })
-places_by (own.Set element) keys =
-    set_places (record { derived = element.now.derived; name = element.now.name; usage = keys.usage; items = element.now.items })
+places_by (own.Peripheral key element) keys = peripheral_by element.now keys
+places_by (own.Cluster key element) keys = cluster_by element.now keys
+places_by (own.Register key element) keys = register_by element.now keys
+places_by (own.Field key element) keys = field_by element.now keys
+places_by (own.Set element) keys = set_by element.now keys
 places_by (own.Value element) keys = value_places element.now
 
 -- the keys of an element

@@ -46,7 +46,7 @@ fn is_marked(own: Own<'_>) -> bool
 }
 
 /// The same numbers once more.
-fn copied(alloc: Global, numbers: &[usize]) -> Result<Vec<usize>, NoMemory>
+pub(crate) fn copied(alloc: Global, numbers: &[usize]) -> Result<Vec<usize>, NoMemory>
     ensures { IfOk result (λ made. made.items ≡ numbers.now) }
 {
     let mut made = Vec::new(alloc);
