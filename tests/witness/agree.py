@@ -33,7 +33,6 @@ EACH = 50
 # What the program doesn't print yet, and how a description shows it; an entry goes with the work that builds it.
 UNPRINTED = {
     "patches": lambda files: "patch" in files,
-    "derived elements": lambda files: "derivedFrom" in files["svd"],
 }
 
 MAIN = """

@@ -1,20 +1,22 @@
+use derive_from::derive;
 use dim_expand::unfold;
 use overlap_check::{Policy, check};
 use pac_fault::{PacFault, fault_line};
 use pac_io::MemSink;
 use std::alloc::Global;
 use std::test::Fail;
-use svd_model::{Derived, Patched};
+use svd_model::Patched;
 use svd_reader::read_device;
 
-/// The first fault of a description in unfolding, or else in checking.
+/// The first fault of a description in deriving, in unfolding, or else in checking.
 fn fault(alloc: Global, text: &str, policy: Policy) -> Result<Option<PacFault>, Fail> {
     if text.len() > 67_108_864 {
         return Ok(None);
     }
     let described = read_device(alloc, text.as_bytes())?;
-    let Ok(derived) = Derived::of(alloc, Patched::of(described)) else {
-        return Ok(None);
+    let derived = match derive(alloc, Patched::of(described)) {
+        Ok(derived) => derived,
+        Err(back) => return Ok(Some(PacFault::Derive(back.fault))),
     };
     match unfold(alloc, derived) {
         Ok(unfolded) => match check(alloc, unfolded, policy) {

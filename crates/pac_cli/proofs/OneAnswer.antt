@@ -22,7 +22,11 @@ use Rattle.pac_inputs.specs.Gathering.{FileMap, Gathering, inputs_are, is_too_lo
 use Rattle.pac_inputs.specs.declared.gathering.Wanted.{Wanted}
 use Rattle.pac_cli.specs.Inputs.{files_of}
 use Rattle.pac_words.specs.declared.command.Source.{Source}
-use Rattle.pac_cli.specs.Resolving.{Resolution, stopped, resolved, SourceBytes, bytes_of, ComeTo, resolution_of}
+use Rattle.pac_cli.specs.Resolving.{Resolution, stopped, resolved, by_reading, SourceBytes, bytes_of, WherePassed, IsJudged, ComeTo, resolution_of}
+use Rattle.pac_cli.proofs.Stopping.{Rows}
+use Rattle.derived_rows.proofs.OneFault.{no_fault, one_fault}
+use Rattle.derived_rows.specs.Faults.{Fault as DeriveFault}
+use Rattle.overlap_check.specs.declared.fault.Policy.{Policy}
 use Rattle.table_sem.specs.TableSurface.{table_surface}
 use Rattle.pac_cli.specs.Showing.{Shows}
 use Rattle.pac_cli.specs.Stages.{BrokeOn, MakesFirst}
@@ -34,8 +38,25 @@ use Rattle.pac_cli.proofs.OneReading.{one_crate_reading, one_script_reading}
 abbrev pub OneReading : Type 0
 OneReading = (bytes : List ℕ) (one other : Reading) → HasAnswer bytes one → HasAnswer bytes other → one ≡ other
 
+-- deriving comes to one thing at most
+one_judged : (all : Rows) (one other : Option DeriveFault) → IsJudged one all → IsJudged other all → one ≡ other
+one_judged all None None a b = refl
+one_judged all None (Some other) a b = absurd (no_fault all other a b)
+one_judged all (Some one) None a b = absurd (no_fault all one b a)
+one_judged all (Some one) (Some other) a b = ap Some (one_fault all one other a b)
+
+same_judged : (policy : Policy) (before : Resolution) (one other : Option DeriveFault) → WherePassed (IsJudged one) before → WherePassed (IsJudged other) before → resolution_of policy one before ≡ resolution_of policy other before
+unfolding resolution_of
+same_judged policy (stopped why) one other a b = refl
+same_judged policy (resolved all) one other a b = ap (λ (fault : Option DeriveFault). resolution_of policy fault (resolved all)) (one_judged all one other a b)
+
 same_resolution : OneReading → (source : SourceBytes) (one other : Resolution) → ComeTo source one → ComeTo source other → one ≡ other
-same_resolution read source one other a b = a.comes ∙ ap (resolution_of source.policy) (read source.svd a.reading b.reading a.read b.read) ∙ sym b.comes
+same_resolution read source one other a b =
+    let same : a.reading ≡ b.reading = read source.svd a.reading b.reading a.read b.read in
+    let also : WherePassed (IsJudged a.fault) (by_reading b.reading) = subst (λ (reading : Reading). WherePassed (IsJudged a.fault) (by_reading reading)) same a.judged in
+    a.comes
+    ∙ (ap (λ (reading : Reading). resolution_of source.policy a.fault (by_reading reading)) same
+    ∙ (same_judged source.policy (by_reading b.reading) a.fault b.fault also b.judged ∙ sym b.comes))
 
 one_for_source : OneReading → (made : Resolution → Answer) (source : Source) (inputs : List (List ℕ)) (one other : Answer) → DecidesSource made source inputs one → DecidesSource made source inputs other → one ≡ other
 one_for_source read made source [] one other a b = absurd a

@@ -1,7 +1,9 @@
 -- What the files of a description come to: reading, deriving, unfolding and checking one after the other, of which the first that
 -- finds a fault stops the rest, or the rows that they leave. Overlaps are faults where the words ask for it. This project's own order.
-use Rattle.std.specs.Prelude.{◌≡◌, ℕ, List, Option, Some, None, option_map, option_and_then, if◌then◌else◌}
+use Rattle.std.specs.Prelude.{◌≡◌, ℕ, List, Option, Some, None, option_map, option_and_then, if◌then◌else◌, ⊤}
 use Rattle.pac_base.specs.declared.path.Step.{Step as NamedStep}
+use Rattle.derived_rows.specs.Deriving.{derived_rows}
+use Rattle.derived_rows.specs.Faults.{Fault as DeriveFault, IsFault, IsFaultless, too_many as too_many_derived}
 use Rattle.dim_expand.specs.declared.fault.Cause.{Cause as DimCause}
 use Rattle.dim_expand.specs.declared.fault.Cause.TheVariants.{Zero, TooLong, NoMark, IndexCount}
 use Rattle.dim_expand.specs.declared.fault.DimFault.{DimFault}
@@ -19,7 +21,6 @@ use Rattle.svd_model.specs.declared.counted.Counted.{Counted}
 use Rattle.svd_model.specs.declared.counted.Counted.TheVariants.{Elements}
 use Rattle.svd_model.specs.Keys.{Key}
 use Rattle.svd_model.specs.Steps.{Step}
-use Rattle.svd_model.specs.Unbuilt.{first_source}
 use Rattle.svd_reader.specs.Described.{Answer as Reading, no_text, too_deep, at_fault, too_many as too_many_read, described, HasAnswer}
 use Rattle.svd_rows.specs.Rows.{Row}
 
@@ -29,7 +30,7 @@ pub data Unresolved : Type 0 where
   nests_too_deep : (name : ℕ × ℕ) → Unresolved
   misdescribed : KeyFault → Unresolved
   too_many : Counted → (count : ℕ) → Unresolved
-  unbuilt : (path : List NamedStep) → Unresolved
+  underived : DeriveFault → Unresolved
   misdimensioned : (path : List NamedStep) → DimCause → Unresolved
   fails_check : CheckFault → Unresolved
 
@@ -56,9 +57,15 @@ by_reading (at_fault fault) = stopped (misdescribed fault)
 by_reading (too_many_read elements) = stopped (too_many Elements (told_count elements))
 by_reading (described all) = resolved all
 
--- an element that is derived isn't served yet
-unfoldable pub by_deriving : List (Row Step Key) → Resolution
-by_deriving all = unless (option_map unbuilt (first_source all)) all
+-- what a fault of deriving stops with
+abbrev pub derive_stops : DeriveFault → Unresolved
+derive_stops (too_many_derived count) = too_many Elements count
+derive_stops fault = underived fault
+
+-- each element takes what it doesn't state from its source, unless deriving has this fault
+unfoldable pub by_deriving : Option DeriveFault → List (Row Step Key) → Resolution
+by_deriving (Some fault) all = stopped (derive_stops fault)
+by_deriving None all = resolved (derived_rows all)
 
 -- what a fault of unfolding stops with; want of memory is decided by nothing
 abbrev pub dim_stops : DimFault → Option Unresolved
@@ -77,9 +84,9 @@ by_unfolding all = unless (option_and_then dim_stops (first_fault all)) (unfolde
 unfoldable pub by_checking : Policy → List (Row Step Key) → Resolution
 by_checking policy all = unless (option_map fails_check (first_of (faults policy all))) all
 
--- all stages behind reading
-unfoldable pub resolution_of : Policy → Reading → Resolution
-resolution_of policy reading = then_by (by_checking policy) (then_by by_unfolding (then_by by_deriving (by_reading reading)))
+-- the stages behind those that came to this, where deriving has this fault or none
+unfoldable pub resolution_of : Policy → Option DeriveFault → Resolution → Resolution
+resolution_of policy fault before = then_by (by_checking policy) (then_by by_unfolding (then_by (by_deriving fault) before))
 
 -- which faults are asked for: overlaps too where the words say so
 abbrev pub policy_of : Source → Policy
@@ -94,8 +101,20 @@ pub record SourceBytes : Type 0 where
 abbrev pub bytes_of : Source → List ℕ → SourceBytes
 bytes_of source svd = record { svd = svd; policy = policy_of source }
 
--- the files come to this
+-- something that is so of the rows, where there are any
+abbrev pub WherePassed : (List (Row Step Key) → Type 0) → Resolution → Type 0
+WherePassed OfRows (stopped why) = ⊤
+WherePassed OfRows (resolved all) = OfRows all
+
+-- deriving the rows has this fault, or none
+abbrev pub IsJudged : Option DeriveFault → List (Row Step Key) → Type 0
+IsJudged None all = IsFaultless all
+IsJudged (Some fault) all = IsFault all fault
+
+-- The files come to this. Deriving is judged where the description was read.
 pub record ComeTo (source : SourceBytes) (resolution : Resolution) : Type 0 where
   pub reading : Reading
   pub read : HasAnswer source.svd reading
-  pub comes : resolution ≡ resolution_of source.policy reading
+  pub fault : Option DeriveFault
+  pub judged : WherePassed (IsJudged fault) (by_reading reading)
+  pub comes : resolution ≡ resolution_of source.policy fault (by_reading reading)

@@ -3,6 +3,8 @@ use Rattle.std.specs.Prelude.{ℕ, List, [], ◌∷◌, ◌++◌, codes, decimal
 use Rattle.std.specs.List.{flat_map}
 use Rattle.pac_base.specs.declared.path.Step.{Step}
 use Rattle.pac_base.specs.declared.span.Span.{Span}
+use Rattle.derive_from.specs.declared.fault.DeriveFault.{DeriveFault}
+use Rattle.derive_from.specs.declared.fault.DeriveFault.TheVariants as derive
 use Rattle.dim_expand.specs.declared.fault.DimFault.{DimFault}
 use Rattle.dim_expand.specs.declared.fault.DimFault.TheVariants as dim
 use Rattle.frag_script.specs.declared.fault.ScriptFault.{ScriptFault}
@@ -20,7 +22,7 @@ use Rattle.svd_reader.specs.declared.fault.SvdFault.TheVariants as svd
 use Rattle.svd_values.specs.AccessorNames.{without_array_mark}
 use Rattle.pac_fault.specs.FragmentTexts.{crate_text, script_text, statements_text}
 use Rattle.pac_fault.specs.declared.fault.PacFault.{PacFault}
-use Rattle.pac_fault.specs.declared.fault.PacFault.TheVariants.{Memory, Words, Read, Write, Bus, Svd, Unbuilt, Dim, Check, CrateText, Script, Limit}
+use Rattle.pac_fault.specs.declared.fault.PacFault.TheVariants.{Memory, Words, Read, Write, Bus, Svd, Derive, Dim, Check, CrateText, Script, Limit}
 use Rattle.pac_fault.specs.declared.fault.WordsFault.{WordsFault}
 use Rattle.pac_fault.specs.declared.fault.WordsFault.TheVariants.{Clap, NoBus}
 use Rattle.pac_fault.specs.declared.fault.LimitFault.{LimitFault}
@@ -114,6 +116,13 @@ check_text (check.RegisterOverlap first second) = both_paths first second (codes
 check_text (check.NameClash first second) = both_paths first second (codes " have one accessor name")
 check_text check.Memory = codes "out of memory"
 
+unfoldable pub derive_text : DeriveFault → List ℕ
+derive_text (derive.MissingParent path names) = path_text path ++ (codes ": derivedFrom " ++ (path_text names ++ codes " is missing"))
+derive_text (derive.DeriveCycle path) = at_path path (codes ": derivedFrom runs in a circle")
+derive_text (derive.TooDeep path) = at_path path (codes ": clusters nest deeper than 64")
+derive_text (derive.TooMany kind count) = many_text kind count
+derive_text derive.Memory = codes "out of memory"
+
 unfoldable pub dim_text : DimFault → List ℕ
 dim_text (dim.DimZero path) = at_path path (codes ": dim is 0")
 dim_text (dim.DimTooLong path members) = at_path path (codes ": dim passes 65536")
@@ -134,7 +143,7 @@ text_of (Read name) = codes "cannot read " ++ name
 text_of Write = codes "cannot write"
 text_of (Bus done) = codes "the bus failed after " ++ (decimal done ++ codes " events")
 text_of (Svd fault) = svd_text fault
-text_of (Unbuilt path) = at_path path (codes ": not built yet")
+text_of (Derive fault) = derive_text fault
 text_of (Dim fault) = dim_text fault
 text_of (Check fault) = check_text fault
 text_of (CrateText fault) = crate_text fault

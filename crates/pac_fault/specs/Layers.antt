@@ -1,5 +1,7 @@
 -- The faults of the layers as those of the whole call: want of memory is one fault wherever it comes from, and a count
 -- that passes its limit is one too.
+use Rattle.derive_from.specs.declared.fault.DeriveFault.{DeriveFault}
+use Rattle.derive_from.specs.declared.fault.DeriveFault.TheVariants as derive
 use Rattle.dim_expand.specs.declared.fault.DimFault.{DimFault}
 use Rattle.dim_expand.specs.declared.fault.DimFault.TheVariants as dim
 use Rattle.frag_parse.specs.declared.fault.ParseFault.{ParseFault}
@@ -12,12 +14,10 @@ use Rattle.overlap_check.specs.declared.fault.CheckFault.{CheckFault}
 use Rattle.overlap_check.specs.declared.fault.CheckFault.TheVariants as check
 use Rattle.pac_io.specs.declared.fault.SinkFault.{SinkFault}
 use Rattle.pac_io.specs.declared.fault.SinkFault.TheVariants as sink
-use Rattle.svd_model.specs.declared.passages.UnbuiltFault.{UnbuiltFault}
-use Rattle.svd_model.specs.declared.passages.UnbuiltFault.TheVariants as unbuilt
 use Rattle.svd_reader.specs.declared.fault.SvdFault.{SvdFault}
 use Rattle.svd_reader.specs.declared.fault.SvdFault.TheVariants as svd
 use Rattle.pac_fault.specs.declared.fault.PacFault.{PacFault}
-use Rattle.pac_fault.specs.declared.fault.PacFault.TheVariants.{Memory, Write, Svd, Unbuilt, Dim, Check, CrateText, Script, Limit}
+use Rattle.pac_fault.specs.declared.fault.PacFault.TheVariants.{Memory, Write, Svd, Derive, Dim, Check, CrateText, Script, Limit}
 use Rattle.pac_fault.specs.declared.fault.LimitFault.TheVariants.{ScriptTooLong, TooMany}
 
 abbrev pub of_reading : SvdFault → PacFault
@@ -25,9 +25,10 @@ of_reading svd.Memory = Memory
 of_reading (svd.TooMany kind count) = Limit (TooMany kind count)
 of_reading fault = Svd fault
 
-abbrev pub of_passage : UnbuiltFault → PacFault
-of_passage unbuilt.Memory = Memory
-of_passage (unbuilt.Unbuilt path) = Unbuilt path
+abbrev pub of_deriving : DeriveFault → PacFault
+of_deriving derive.Memory = Memory
+of_deriving (derive.TooMany kind count) = Limit (TooMany kind count)
+of_deriving fault = Derive fault
 
 abbrev pub of_unfolding : DimFault → PacFault
 of_unfolding dim.Memory = Memory

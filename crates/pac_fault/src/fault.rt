@@ -1,7 +1,8 @@
+use derive_from::DeriveFault;
 use dim_expand::DimFault;
 use frag_types::{CrateFault, ScriptFault};
 use overlap_check::CheckFault;
-use pac_base::{Path, Text};
+use pac_base::Text;
 use pac_words::BusKind;
 use svd_model::Counted;
 use svd_reader::SvdFault;
@@ -34,12 +35,9 @@ pub enum PacFault {
     /// The description is refused. Status 6.
     #[error("{0}")]
     Svd(SvdFault),
-    /// An element can't be served yet: one that is derived. Status 8.
-    #[error("an element is not built yet")]
-    Unbuilt {
-        /// The written names down to the first such element.
-        path: Path,
-    },
+    /// What elements are derived from is refused. Status 8.
+    #[error("{0}")]
+    Derive(DeriveFault),
     /// A dimension of the description is refused. Status 8.
     #[error("{0}")]
     Dim(DimFault),

@@ -1,10 +1,11 @@
 ghost use Rattle.std.specs.Prelude.{◌≡◌, ◌++◌, IfOk, OnOk, codes, decimal};
 ghost use Rattle.std.specs.List.{flat_map};
 ghost use Rattle.svd_values.specs.AccessorNames.{without_array_mark};
-ghost use Rattle.pac_fault.specs.FaultTexts.{at_path, bad_text, both_paths, check_text, counted_text, dim_text, fault_line, index_text, kind_text, limit_text, many_text, path_text, shown_name, span_text, step_behind, step_text, svd_text, text_of, words_text};
+ghost use Rattle.pac_fault.specs.FaultTexts.{at_path, bad_text, both_paths, check_text, counted_text, derive_text, dim_text, fault_line, index_text, kind_text, limit_text, many_text, path_text, shown_name, span_text, step_behind, step_text, svd_text, text_of, words_text};
 
 use crate::fault::{LimitFault, PacFault, WordsFault};
 use crate::fragment_text::{push_crate, push_script, push_statements};
+use derive_from::DeriveFault;
 use dim_expand::DimFault;
 use overlap_check::CheckFault;
 use pac_base::{NoMemory, Span, Step};
@@ -38,7 +39,7 @@ fn push_text(page: &mut Page, fault: &PacFault) -> Result<(), NoMemory>
         PacFault::Write => page.push(b"cannot write"),
         PacFault::Bus { done } => push_between(page, b"the bus failed after ", *done, b" events"),
         PacFault::Svd(fault) => push_svd(page, fault),
-        PacFault::Unbuilt { path } => push_at(page, path.as_slice(), b": not built yet"),
+        PacFault::Derive(fault) => push_derive(page, fault),
         PacFault::Dim(fault) => push_dim(page, fault),
         PacFault::Check(fault) => push_check(page, fault),
         PacFault::CrateText(fault) => push_crate(page, fault),
@@ -323,6 +324,39 @@ fn push_check(page: &mut Page, fault: &CheckFault) -> Result<(), NoMemory>
             b" have one accessor name",
         ),
         CheckFault::Memory => page.push(b"out of memory"),
+    }
+}
+
+/// Appends a path, and the names that lead to no source.
+fn push_missing(page: &mut Page, path: &[Step], names: &[Step]) -> Result<(), NoMemory>
+    ensures { OnOk result (page.new ≡ page.old ++ (path_text path.now ++ (codes ": derivedFrom " ++ (path_text names.now ++ codes " is missing")))) }
+{
+    push_path(page, path)?;
+    page.push(b": derivedFrom ")?;
+    push_path(page, names)?;
+    page.push(b" is missing")
+}
+
+#[tactic(auto, unfolding(crate::specs::FaultTexts::derive_text))]
+fn push_derive(page: &mut Page, fault: &DeriveFault) -> Result<(), NoMemory>
+    ensures { OnOk result (page.new ≡ page.old ++ derive_text fault.now) }
+{
+    match fault {
+        DeriveFault::MissingParent { path, name } => {
+            push_missing(page, path.as_slice(), name.as_slice())
+        }
+        DeriveFault::DeriveCycle { path } => push_at(
+            page,
+            path.as_slice(),
+            b": derivedFrom runs in a circle",
+        ),
+        DeriveFault::TooDeep { path } => push_at(
+            page,
+            path.as_slice(),
+            b": clusters nest deeper than 64",
+        ),
+        DeriveFault::TooMany { kind, count } => push_many(page, *kind, *count),
+        DeriveFault::Memory => page.push(b"out of memory"),
     }
 }
 

@@ -1,8 +1,9 @@
 ghost use Rattle.std.specs.Prelude.{◌≡◌};
-ghost use Rattle.pac_fault.specs.Layers.{of_checking, of_parsing, of_passage, of_reading, of_script, of_typing, of_unfolding, of_writing};
+ghost use Rattle.pac_fault.specs.Layers.{of_checking, of_deriving, of_parsing, of_reading, of_script, of_typing, of_unfolding, of_writing};
 ghost use Rattle.pac_fault.specs.declared.fault.PacFault.TheVariants.{Memory};
 
 use crate::fault::{LimitFault, PacFault};
+use derive_from::DeriveFault;
 use dim_expand::DimFault;
 use frag_parse::ParseFault;
 use frag_types::{CrateFault, ScriptFault};
@@ -10,7 +11,6 @@ use overlap_check::CheckFault;
 use pac_base::{Back, NoMemory};
 use pac_io::SinkFault;
 use std::alloc::{AllocError, AllocFailed};
-use svd_model::UnbuiltFault;
 use svd_reader::SvdFault;
 
 impl From<AllocError> for PacFault {
@@ -62,20 +62,17 @@ impl From<SvdFault> for PacFault {
     }
 }
 
-impl<S: Drop> From<Back<S, UnbuiltFault>> for PacFault {
-    ghost from_gives = { λ error fault. fault ≡ of_passage error.fault };
+impl<S: Drop> From<Back<S, DeriveFault>> for PacFault {
+    ghost from_gives = { λ error fault. fault ≡ of_deriving error.fault };
 
-    fn from(error: Back<S, UnbuiltFault>) -> PacFault {
-        of_passage(error.fault)
-    }
-}
-
-fn of_passage(fault: UnbuiltFault) -> PacFault
-    ensures { result ≡ of_passage fault }
-{
-    match fault {
-        UnbuiltFault::Unbuilt { path } => PacFault::Unbuilt { path },
-        UnbuiltFault::Memory => PacFault::Memory,
+    fn from(error: Back<S, DeriveFault>) -> PacFault {
+        match error.fault {
+            DeriveFault::TooMany { kind, count } => {
+                PacFault::Limit(LimitFault::TooMany { kind, count })
+            }
+            DeriveFault::Memory => PacFault::Memory,
+            fault => PacFault::Derive(fault),
+        }
     }
 }
 

@@ -1,8 +1,8 @@
 use crate::harness::{described, lists, refusal};
 use std::test::Fail;
 
-// Registers of `T` that are refused as a whole, or aren't served yet.
-const REFUSED: [(&str, &str, &str); 8] = [
+// Registers of `T` that are refused as a whole.
+const REFUSED: [(&str, &str, &str); 7] = [
     (
         "misaligned",
         "<register><name>A</name><addressOffset>2</addressOffset></register>",
@@ -37,11 +37,6 @@ const REFUSED: [(&str, &str, &str); 8] = [
         "list_by_letters",
         "<register><name>CH%s</name><addressOffset>0</addressOffset><dim>0</dim><dimIncrement>4</dimIncrement><dimIndex>A-C</dimIndex></register>",
         "T.CH%s: dim is 0",
-    ),
-    (
-        "derived_register",
-        "<register><name>A</name><addressOffset>0</addressOffset></register><register derivedFrom=\"A\"><name>B</name><addressOffset>4</addressOffset></register>",
-        "T.B: not built yet",
     ),
 ];
 

@@ -3,6 +3,8 @@
 #![tactic(auto)]
 
 #[cfg(test)]
+mod derived;
+#[cfg(test)]
 mod executed;
 #[cfg(test)]
 mod faults;
