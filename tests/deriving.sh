@@ -105,9 +105,9 @@ lists 'a derived register with fields of its own: F stands in the place of the o
         "$(register A B 4 "$(fields "$(field '' H "$(bits 9 8)")" "$(field '' F '<bitOffset>2</bitOffset>')")")")" \
     'T.a 0x40000000 32 rw 0x00000005' '  f [3:0] ro modify' '  g [7:4] rw modify' \
     'T.b 0x40000004 32 rw 0x00000005' '  f [2:2] rw modify' '  g [7:4] rw modify' '  h [9:8] rw modify'
-lists 'a derived field: its own place, and the width and access of its source' \
+lists 'a derived field: its own place, and the width and access of its source; so all fields of A are read-only' \
     "$(in_t "$(register '' A 0 "$(fields "$(field '' F "$(bits 3 0)" '<access>read-only</access>')" "$(field F G '<bitOffset>8</bitOffset>')" "$(field F H '<bitOffset>12</bitOffset><bitWidth>1</bitWidth>')")")")" \
-    'T.a 0x40000000 32 rw 0x00000000' '  f [3:0] ro modify' '  g [11:8] ro modify' '  h [12:12] ro modify'
+    'T.a 0x40000000 32 ro 0x00000000' '  f [3:0] ro modify' '  g [11:8] ro modify' '  h [12:12] ro modify'
 lists 'a derived field without a place has that of its source' \
     "$(in_t "$(register '' A 0 "$(fields "$(field '' F "$(bits 7 4)")")")" "$(register '' B 4 "$(fields "$(field A.F G '')")")")" \
     'T.a 0x40000000 32 rw 0x00000000' '  f [7:4] rw modify' 'T.b 0x40000004 32 rw 0x00000000' '  g [7:4] rw modify'
