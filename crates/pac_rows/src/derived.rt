@@ -46,11 +46,11 @@ const WITHIN: [(&str, &str, &str); 4] = [
         "<register><name>A</name><addressOffset>0</addressOffset></register><register derivedFrom=\"A\"><name>B</name><addressOffset>4</addressOffset></register>",
         "T.a 0x40000000 32 rw 0x00000000\nT.b 0x40000004 32 rw 0x00000000\n",
     ),
-    // The width is the source's where none is stated.
+    // The width is the source's where none is stated, and so is the access: all fields of A state that they are read.
     (
         "derived_field",
         "<register><name>A</name><addressOffset>0</addressOffset><fields><field><name>F</name><bitOffset>0</bitOffset><bitWidth>2</bitWidth><access>read-only</access></field><field derivedFrom=\"F\"><name>G</name><bitOffset>4</bitOffset></field></fields></register>",
-        "T.a 0x40000000 32 rw 0x00000000\n  f [1:0] ro modify\n  g [5:4] ro modify\n",
+        "T.a 0x40000000 32 ro 0x00000000\n  f [1:0] ro modify\n  g [5:4] ro modify\n",
     ),
     // A dimension is taken over only under a name that is marked.
     (
