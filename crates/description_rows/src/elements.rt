@@ -26,7 +26,7 @@ fn refused(alloc: Global, text: &[u8]) -> Result<Option<u32>, Fail> {
 }
 
 /// Texts, each with the place at which it is refused, if it is.
-const TEXTS: [(&str, Option<u32>); 20] = [
+const TEXTS: &[(&str, Option<u32>)] = &[
     ("", Some(0)),
     ("<device/>", None),
     (
@@ -65,7 +65,7 @@ const WHOLE: &str = "<?xml?><device><name>D&amp;</name><!--c--></device>";
 
 #[test]
 fn texts_and_the_places_of_syntax(rt: HostRuntime) -> Result<(), Fail> {
-    for (text, at) in TEXTS {
+    for &(text, at) in TEXTS {
         assert!(rt; refused(rt.alloc(), text.as_bytes())? == at, "{text}");
     }
     assert!(rt; refused(rt.alloc(), b"<device>\xFF</device>")? == Some(8));
@@ -160,7 +160,7 @@ fn nesting(alloc: Global, depth: usize, end: &str) -> Result<(&'static str, u32)
 
 /// How deep the elements of a text nest, what stands at its end, and what it is. Of a text that is
 /// none, too, it is said where it is none, however deep it nests.
-const NESTED: [(usize, &str, &str, u32); 4] = [
+const NESTED: &[(usize, &str, &str, u32)] = &[
     (64, "", "read", 0),
     (65, "", "too deep", 213),
     (300, "", "too deep", 213),
@@ -169,7 +169,7 @@ const NESTED: [(usize, &str, &str, u32); 4] = [
 
 #[test]
 fn nesting_up_to_64(rt: HostRuntime) -> Result<(), Fail> {
-    for (depth, end, said, at) in NESTED {
+    for &(depth, end, said, at) in NESTED {
         assert!(rt; nesting(rt.alloc(), depth, end)? == (said, at), "{depth}");
     }
     Ok(())

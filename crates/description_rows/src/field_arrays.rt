@@ -4,7 +4,7 @@ use std::test::Fail;
 
 // The fields of a register `R` of 32 bits, and the line of the first fault: where overlaps aren't asked for, and where
 // they are.
-const FIELDS: [(&str, &str, &str, &str); 8] = [
+const FIELDS: &[(&str, &str, &str, &str)] = &[
     (
         "four fields, each in a byte of its own",
         "<field><name>LV[%s]</name><dim>4</dim><dimIncrement>8</dimIncrement><bitOffset>0</bitOffset><bitWidth>2</bitWidth></field>",
@@ -66,7 +66,7 @@ fn with_fields(rt: &impl AllocGlobal, fields: &str) -> Result<String, Fail> {
 
 #[test]
 fn each_member_of_a_field_array_is_checked(rt: HostRuntime) -> Result<(), Fail> {
-    for (row, fields, loose, strict) in FIELDS {
+    for &(row, fields, loose, strict) in FIELDS {
         let text = with_fields(&rt, fields)?;
         let told = line(rt.alloc(), text.as_str(), Policy::Loose)?;
         assert!(rt; told.written() == loose.as_bytes(), "{row}");
@@ -80,7 +80,7 @@ fn each_member_of_a_field_array_is_checked(rt: HostRuntime) -> Result<(), Fail> 
 }
 
 // How many members the register array `R[%s]` has, the fields and the register behind it, and the line of the first fault.
-const COUNTS: [(&str, u64, &str, &str, &str); 5] = [
+const COUNTS: &[(&str, u64, &str, &str, &str)] = &[
     (
         "8 times 65,536 fields",
         8,
@@ -134,7 +134,7 @@ fn with_array(
 
 #[test]
 fn fields_and_values_are_counted_with_every_member(rt: HostRuntime) -> Result<(), Fail> {
-    for (row, count, fields, behind, wanted) in COUNTS {
+    for &(row, count, fields, behind, wanted) in COUNTS {
         let text = with_array(&rt, count, fields, behind)?;
         let told = line(rt.alloc(), text.as_str(), Policy::Loose)?;
         assert!(rt; told.written() == wanted.as_bytes(), "{row}");

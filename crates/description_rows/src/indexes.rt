@@ -3,7 +3,7 @@ use std::test::Fail;
 use svd_values::{DimIndex, IndexFault, dim_index};
 
 // Texts of `dimIndex`: the last index that each gives, as text, behind its kind.
-const INDEXES: [(&str, &str, &str); 15] = [
+const INDEXES: &[(&str, &str, &str)] = &[
     ("A-C", "letters", "C"),
     ("x-x", "letters", "x"),
     ("0-7", "numbers", "7"),
@@ -47,7 +47,7 @@ fn is_last_index(alloc: Global, text: &str, kind: &str, last: &str) -> Result<bo
 
 #[test]
 fn last_index_of_a_dimension(rt: HostRuntime) -> Result<(), Fail> {
-    for (text, kind, last) in INDEXES {
+    for &(text, kind, last) in INDEXES {
         assert!(rt; is_last_index(rt.alloc(), text, kind, last)?, "{text}");
     }
     Ok(())

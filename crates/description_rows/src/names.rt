@@ -3,19 +3,19 @@ use std::alloc::Global;
 use std::test::Fail;
 use svd_values::{accessor, is_call, slot_name, variant_call};
 
-const NAMES: [&str; 8] = ["CR", "cr1", "_", "0", "CH%s", "%s", "C%sH", "CH[%s]"];
+const NAMES: &[&str] = &["CR", "cr1", "_", "0", "CH%s", "%s", "C%sH", "CH[%s]"];
 
-const NO_NAMES: [&str; 9] = [
+const NO_NAMES: &[&str] = &[
     "", "[%s]", "A B", "A-B", "CH%", "%s%s", "CH[%s]X", "CH%s[%s]", "CH[%S]",
 ];
 
 #[test]
 fn names_are_words_with_one_mark(rt: HostRuntime) -> Result<(), Fail> {
-    for text in NAMES {
+    for &text in NAMES {
         let name = Name::new(rt.alloc(), text.as_bytes())?;
         assert!(rt; name.copy(rt.alloc())?.bytes() == text.as_bytes(), "{text}");
     }
-    for text in NO_NAMES {
+    for &text in NO_NAMES {
         let name = Name::new(rt.alloc(), text.as_bytes());
         assert!(rt; matches!(name, Err(NameFault::NotAName)), "{text}");
     }
@@ -44,7 +44,7 @@ fn a_path_grows_by_steps(rt: HostRuntime) -> Result<(), Fail> {
 }
 
 // Written names, with the accessor that each gives.
-const ACCESSORS: [(&str, &str); 8] = [
+const ACCESSORS: &[(&str, &str)] = &[
     ("type", "type_"),
     ("READ", "read_"),
     ("at_bit", "at_bit_"),
@@ -56,7 +56,7 @@ const ACCESSORS: [(&str, &str); 8] = [
 ];
 
 // Written names, with the slot that each gives.
-const SLOTS: [(&str, &str); 3] = [("Self", "Self_"), ("READ", "READ"), ("1WIRE", "_1WIRE")];
+const SLOTS: &[(&str, &str)] = &[("Self", "Self_"), ("READ", "READ"), ("1WIRE", "_1WIRE")];
 
 fn accessor_of(alloc: Global, written: &str) -> Result<Name, Fail> {
     let name = Name::new(alloc, written.as_bytes())?;
@@ -70,13 +70,13 @@ fn slot_of(alloc: Global, written: &str) -> Result<Name, Fail> {
 
 #[test]
 fn keyword_names(rt: HostRuntime) -> Result<(), Fail> {
-    for (written, call) in ACCESSORS {
+    for &(written, call) in ACCESSORS {
         assert!(rt;
             accessor_of(rt.alloc(), written)?.bytes() == call.as_bytes(),
             "{written}"
         );
     }
-    for (written, slot) in SLOTS {
+    for &(written, slot) in SLOTS {
         assert!(rt;
             slot_of(rt.alloc(), written)?.bytes() == slot.as_bytes(),
             "{written}"
@@ -86,7 +86,7 @@ fn keyword_names(rt: HostRuntime) -> Result<(), Fail> {
 }
 
 // Names of enumerated values, with the call that writes each and the one that asks for it.
-const VALUE_CALLS: [(&str, &str, &str); 3] = [
+const VALUE_CALLS: &[(&str, &str, &str)] = &[
     ("1/2 Div", "_1_2_div", "is_1_2_div"),
     ("Write", "write_", "is_write"),
     ("At bit", "at_bit_", "is_at_bit"),
@@ -102,7 +102,7 @@ fn calls_of(alloc: Global, written: &str) -> Result<(Name, Name), Fail> {
 
 #[test]
 fn calls_of_values(rt: HostRuntime) -> Result<(), Fail> {
-    for (written, writes, asks) in VALUE_CALLS {
+    for &(written, writes, asks) in VALUE_CALLS {
         let (write, ask) = calls_of(rt.alloc(), written)?;
         assert!(rt; write.bytes() == writes.as_bytes(), "{written}");
         assert!(rt; ask.bytes() == asks.as_bytes(), "{written}");

@@ -1,7 +1,7 @@
 use svd_values::{Place, bit_range, number, value_bits};
 
 // Texts, with the number that each stands for.
-const NUMBERS: [(&str, Option<u64>); 28] = [
+const NUMBERS: &[(&str, Option<u64>)] = &[
     ("0", Some(0)),
     ("0042", Some(42)),
     ("+5", Some(5)),
@@ -33,7 +33,7 @@ const NUMBERS: [(&str, Option<u64>); 28] = [
 ];
 
 // Texts of enumerated values, in which a bit may be left open.
-const VALUES: [(&str, Option<u64>); 4] = [
+const VALUES: &[(&str, Option<u64>)] = &[
     ("#x1", Some(1)),
     ("0bX1x0", Some(4)),
     ("0x1f", Some(31)),
@@ -42,16 +42,16 @@ const VALUES: [(&str, Option<u64>); 4] = [
 
 #[test]
 fn numbers_in_three_bases(rt: HostRuntime) {
-    for (text, value) in NUMBERS {
+    for &(text, value) in NUMBERS {
         assert!(rt; number(text.as_bytes()) == value, "{text}");
     }
-    for (text, value) in VALUES {
+    for &(text, value) in VALUES {
         assert!(rt; value_bits(text.as_bytes()) == value, "{text}");
     }
 }
 
 // Texts of `bitRange`, with offset and width.
-const RANGES: [(&str, Option<(u128, u128)>); 8] = [
+const RANGES: &[(&str, Option<(u128, u128)>)] = &[
     ("[7:4]", Some((4, 4))),
     ("[3:3]", Some((3, 1))),
     ("[18446744073709551615:0]", Some((0, 18446744073709551616))),
@@ -64,7 +64,7 @@ const RANGES: [(&str, Option<(u128, u128)>); 8] = [
 
 #[test]
 fn ranges_of_bits(rt: HostRuntime) {
-    for (text, wanted) in RANGES {
+    for &(text, wanted) in RANGES {
         let place = wanted.map(|(offset, width)| Place {
             offset: Some(offset),
             width: Some(width),

@@ -8,7 +8,7 @@ type Row = (Option<usize>, &'static [usize]);
 
 // A part that begins as another one, on which a third is based too; a chain against the order of numbers; no
 // element at all.
-const ORDERED: [&[Row]; 3] = [
+const ORDERED: &[&[Row]] = &[
     &[
         (None, &[1, 2, 4]),
         (Some(3), &[]),
@@ -23,7 +23,7 @@ const ORDERED: [&[Row]; 3] = [
 
 // Elements with a circle, and the first one with a base that lies on one: of two that are based on each other;
 // that is its own base; behind one that only leads to a circle; through a part; none where no base is on it.
-const CIRCLES: [(&[Row], Option<usize>); 5] = [
+const CIRCLES: &[(&[Row], Option<usize>)] = &[
     (&[(None, &[1, 2]), (Some(2), &[]), (Some(1), &[])], Some(1)),
     (&[(None, &[1]), (Some(1), &[])], Some(1)),
     (&[(Some(1), &[]), (Some(2), &[]), (Some(2), &[])], Some(2)),

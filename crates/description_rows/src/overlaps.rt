@@ -3,7 +3,7 @@ use overlap_check::Policy;
 use std::test::Fail;
 
 // What stands in a peripheral, and the line of the first fault where overlaps are asked for.
-const ROWS: [(&str, &str, &str); 11] = [
+const ROWS: &[(&str, &str, &str)] = &[
     (
         "two registers at one address",
         "<register><name>CCMR1_OUTPUT</name><addressOffset>0x18</addressOffset></register><register><name>CCMR1_INPUT</name><addressOffset>0x18</addressOffset></register>",
@@ -63,7 +63,7 @@ const ROWS: [(&str, &str, &str); 11] = [
 
 #[test]
 fn overlaps_are_refused_where_they_are_asked_for(rt: HostRuntime) -> Result<(), Fail> {
-    for (row, registers, wanted) in ROWS {
+    for &(row, registers, wanted) in ROWS {
         let text = described(&rt, registers)?;
         let told = line(rt.alloc(), text.as_str(), Policy::Strict)?;
         assert!(rt; told.written() == wanted.as_bytes(), "{row}");

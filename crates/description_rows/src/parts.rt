@@ -21,7 +21,7 @@ fn counted(alloc: Global, text: &str) -> Result<(usize, bool), Fail> {
     Ok((text.len(), rest.is_empty()))
 }
 
-const PARTS: [(&str, usize, bool); 22] = [
+const PARTS: &[(&str, usize, bool)] = &[
     ("\u{feff} <?xml version=\"1.0\"?>\n<a/>", 2, true),
     ("<?xml <a/>", 0, false),
     ("<a b=\"1\" c = '2' ></a >", 2, true),
@@ -48,7 +48,7 @@ const PARTS: [(&str, usize, bool); 22] = [
 
 #[test]
 fn parts_of_texts(rt: HostRuntime) -> Result<(), Fail> {
-    for (text, count, whole) in PARTS {
+    for &(text, count, whole) in PARTS {
         assert!(rt; counted(rt.alloc(), text)? == (count, whole), "{text}");
     }
     Ok(())

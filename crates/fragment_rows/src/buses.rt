@@ -26,7 +26,7 @@ enum Step {
 }
 
 // Little end first across widths, a preset over a preset, bytes that no preset holds, and zeros.
-const STEPS: [Step; 17] = [
+const STEPS: &[Step] = &[
     Step::Preset(0x10, Word::Whole(0x1122_3344)),
     Step::Read(0x10, Word::Half(0x3344)),
     Step::Write(0x11, Word::Half(0xabcd)),

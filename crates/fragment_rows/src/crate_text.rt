@@ -42,12 +42,12 @@ pub mod t {
 
 // Where each item of it begins, in bytes: a slot, a block, a struct field, an accessor, a register,
 // two markers, two readers and two writers.
-const PLACES: [usize; 11] = [53, 101, 194, 252, 310, 642, 667, 719, 819, 952, 1046];
+const PLACES: &[usize] = &[53, 101, 194, 252, 310, 642, 667, 719, 819, 952, 1046];
 
 #[test]
 fn what_is_read_is_printed_as_it_was(rt: HostRuntime) -> Result<(), Fail> {
     let krate = parse_crate(rt.alloc(), EXAMPLE.as_bytes())?;
-    assert!(rt; krate.places.as_slice() == PLACES.as_slice());
+    assert!(rt; krate.places.as_slice() == PLACES);
     let mut sink = MemSink::new(rt.alloc());
     print_crate(rt.alloc(), &krate, &mut sink)?;
     assert!(rt; sink.written() == EXAMPLE.as_bytes());
@@ -140,7 +140,7 @@ fn no_part_of_version_two_can_be_left_out(rt: HostRuntime) -> Result<(), Fail> {
 }
 
 // What is put in the place of what, once in the text of version 2, and what reading stops at.
-const EDITED: [(&str, &str, &str); 9] = [
+const EDITED: &[(&str, &str, &str)] = &[
     ("0x2;\nuse", "0x3;\nuse", "0x3"),
     ("0x2;\nuse", "0x02;\nuse", "0x02"),
     // two lines of the version, and none
@@ -168,7 +168,7 @@ const EDITED: [(&str, &str, &str); 9] = [
 
 #[test]
 fn version_two_refused_where_it_is_edited(rt: HostRuntime) -> Result<(), Fail> {
-    for (old, new, stops) in EDITED {
+    for &(old, new, stops) in EDITED {
         let Some((before, after)) = INDEXED.split_once(old) else {
             continue;
         };
@@ -190,7 +190,7 @@ fn syntax_at(alloc: Global, text: &str) -> Option<usize> {
 }
 
 // Texts, and the byte at which each stops being a crate.
-const WORDS: [(&str, Option<usize>); 3] = [
+const WORDS: &[(&str, Option<usize>)] = &[
     ("", Some(0)),
     ("use crate::generic::*;", Some(22)),
     // other white space, and a comment with a letter in it that is no ASCII
@@ -202,7 +202,7 @@ const WORDS: [(&str, Option<usize>); 3] = [
 
 #[test]
 fn edited_text_refused(rt: HostRuntime) -> Result<(), Fail> {
-    for (text, at) in WORDS {
+    for &(text, at) in WORDS {
         assert!(rt; syntax_at(rt.alloc(), text) == at, "{text}");
     }
     let twice = format!(in rt.alloc(); "{EXAMPLE}{EXAMPLE}")?;

@@ -5,7 +5,7 @@ use std::alloc::Global;
 use std::test::Fail;
 
 // What is put in the place of what in the text of version 1, where it goes on fitting.
-const FITS: [(&str, &str); 7] = [
+const FITS: &[(&str, &str)] = &[
     ("pub fn is_fast(", "pub fn is_on("),
     ("[u8; 3]", "[u8; 0]"),
     ("16, 2, n)", "0, 1, n)"),
@@ -16,7 +16,7 @@ const FITS: [(&str, &str); 7] = [
 ];
 
 // The same of the text of version 2.
-const FITS_INDEXED: [(&str, &str); 5] = [
+const FITS_INDEXED: &[(&str, &str)] = &[
     ("at_bit(0, 4, 8, n)) &", "at_bit(3, 4, 8, n)) &"),
     (
         "at_bit(0, 4, 8, n)) &",
@@ -30,12 +30,12 @@ const FITS_INDEXED: [(&str, &str); 5] = [
 #[test]
 fn what_just_fits(rt: HostRuntime) -> Result<(), Fail> {
     assert!(rt; typed(rt.alloc(), VALUED).is_ok());
-    for (old, new) in FITS {
+    for &(old, new) in FITS {
         let text = edited(rt.alloc(), VALUED, old, new)?;
         assert!(rt; typed(rt.alloc(), text.as_str()).is_ok(), "{new}");
     }
     assert!(rt; typed(rt.alloc(), CHANNELS).is_ok());
-    for (old, new) in FITS_INDEXED {
+    for &(old, new) in FITS_INDEXED {
         let text = edited(rt.alloc(), CHANNELS, old, new)?;
         assert!(rt; typed(rt.alloc(), text.as_str()).is_ok(), "{new}");
     }

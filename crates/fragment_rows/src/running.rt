@@ -23,7 +23,7 @@ enum Row {
 }
 
 // Scripts against the worked text, and their events over a bus of bytes.
-const RUNS: [(&str, &[Row]); 6] = [
+const RUNS: &[(&str, &[Row])] = &[
     // a one clears the first field, so a write starts with it at 0
     (
         "T.sr().write(|w| w.f1().set_bit());",
@@ -64,7 +64,7 @@ const RUNS: [(&str, &[Row]); 6] = [
 ];
 
 // Scripts against the text of version 2, whose reset word is 0x113 and whose bit 4 is cleared by a one.
-const INDEXED_RUNS: [(&str, &[Row]); 4] = [
+const INDEXED_RUNS: &[(&str, &[Row])] = &[
     (
         "D.en().write(|w| w.ch(7).set_bit().lv(3).bits(2));",
         &[Row::Write(0x5000_0000, 32, 0x1200_0103)],
@@ -95,7 +95,7 @@ const INDEXED_RUNS: [(&str, &[Row]); 4] = [
 
 // Scripts against registers over the same bytes: the reset word of each that is called is set once, in the
 // order of the first calls.
-const OVERLAID_RUNS: [(&str, &[Row]); 3] = [
+const OVERLAID_RUNS: &[(&str, &[Row])] = &[
     (
         "let a = T.a().read();\nlet b = T.b().read();\nlet c = T.a().read();",
         &[
@@ -191,7 +191,7 @@ fn gives<B: Bus>(
 #[test]
 fn events_of_scripts(rt: HostRuntime) -> Result<(), Fail> {
     let krate = typed(rt.alloc(), EXAMPLE)?;
-    for (script, rows) in RUNS {
+    for &(script, rows) in RUNS {
         let mut bus = MemBus::new(rt.alloc());
         assert!(rt;
             gives(rt.alloc(), &krate, script, &mut bus, rows)?,
@@ -205,7 +205,7 @@ fn events_of_scripts(rt: HostRuntime) -> Result<(), Fail> {
 fn version_two_keeps_the_events(rt: HostRuntime) -> Result<(), Fail> {
     let text = of_version_two(rt.alloc(), EXAMPLE)?;
     let krate = typed(rt.alloc(), text.as_str())?;
-    for (script, rows) in RUNS {
+    for &(script, rows) in RUNS {
         let mut bus = MemBus::new(rt.alloc());
         assert!(rt;
             gives(rt.alloc(), &krate, script, &mut bus, rows)?,
@@ -229,7 +229,7 @@ fn an_array_in_the_worked_text(rt: HostRuntime) -> Result<(), Fail> {
 #[test]
 fn events_of_indexed_calls(rt: HostRuntime) -> Result<(), Fail> {
     let krate = typed(rt.alloc(), CHANNELS)?;
-    for (script, rows) in INDEXED_RUNS {
+    for &(script, rows) in INDEXED_RUNS {
         let mut bus = MemBus::new(rt.alloc());
         assert!(rt;
             gives(rt.alloc(), &krate, script, &mut bus, rows)?,
@@ -242,7 +242,7 @@ fn events_of_indexed_calls(rt: HostRuntime) -> Result<(), Fail> {
 #[test]
 fn registers_over_the_same_bytes(rt: HostRuntime) -> Result<(), Fail> {
     let krate = typed(rt.alloc(), OVERLAID)?;
-    for (script, rows) in OVERLAID_RUNS {
+    for &(script, rows) in OVERLAID_RUNS {
         let mut bus = MemBus::new(rt.alloc());
         assert!(rt;
             gives(rt.alloc(), &krate, script, &mut bus, rows)?,
@@ -269,7 +269,7 @@ fn zeros_whatever_is_written(rt: HostRuntime) -> Result<(), Fail> {
 }
 
 // What was made before the third access, which fails.
-const BEFORE: [Row; 3] = [
+const BEFORE: &[Row] = &[
     Row::Read(0x4000_0000, 32, 0),
     Row::Truth(false),
     Row::Write(0x4000_0000, 32, 3),
@@ -278,7 +278,7 @@ const BEFORE: [Row; 3] = [
 fn stopped(ran: &Result<Events, BusFault>) -> bool {
     match ran {
         Ok(_) => false,
-        Err(fault) => fault.done == 3 && are_rows(&fault.events, BEFORE.as_slice()),
+        Err(fault) => fault.done == 3 && are_rows(&fault.events, BEFORE),
     }
 }
 
@@ -350,7 +350,7 @@ fn gives_alike(
 #[test]
 fn the_same_events_by_steps(rt: HostRuntime) -> Result<(), Fail> {
     let krate = typed(rt.alloc(), EXAMPLE)?;
-    for (script, rows) in RUNS {
+    for &(script, rows) in RUNS {
         assert!(rt; gives_alike(rt.alloc(), &krate, script, rows)?, "{script}");
     }
     Ok(())

@@ -8,7 +8,7 @@ use std::alloc::Global;
 use std::test::Fail;
 
 // Scripts against the text of version 1, with the first line that doesn't type, and its kind.
-const UNFIT: [(&str, u32, ScriptTyping); 31] = [
+const UNFIT: &[(&str, u32, ScriptTyping)] = &[
     // names that stand for nothing
     ("U.a().reset();", 1, NoSuchName),
     ("say(s.bits());", 1, NoSuchName),
@@ -67,7 +67,7 @@ const UNFIT: [(&str, u32, ScriptTyping); 31] = [
 ];
 
 // Scripts that type.
-const FIT: [&str; 3] = [
+const FIT: &[&str] = &[
     "let s = T.a().read();\nlet t = S.c(1).d().read();\nsay(s.e().is_on());\nsay(t.bits());",
     "T.y(1).write(|w| w.bits(0xff).m().bits(255).m().fast().e().on());",
     "T.x().modify(|r, w| w.e().bit(!r.e().bit()).m().bits(r.m().bits()));",
@@ -89,17 +89,17 @@ fn unfit(alloc: Global, krate: &TypedCrate, text: &str, line: u32, kind: ScriptT
 #[test]
 fn each_fault_of_a_script(rt: HostRuntime) -> Result<(), Fail> {
     let krate = typed(rt.alloc(), VALUED)?;
-    for (text, line, kind) in UNFIT {
+    for &(text, line, kind) in UNFIT {
         assert!(rt; unfit(rt.alloc(), &krate, text, line, kind), "{text}");
     }
-    for text in FIT {
+    for &text in FIT {
         assert!(rt; typed_script(rt.alloc(), &krate, text).is_ok(), "{text}");
     }
     Ok(())
 }
 
 // Scripts against the text of version 2, with the first line that doesn't type, and its kind.
-const UNFIT_INDEXED: [(&str, u32, ScriptTyping); 6] = [
+const UNFIT_INDEXED: &[(&str, u32, ScriptTyping)] = &[
     ("D.en().write(|w| w.ch(8).set_bit());", 1, IndexRange),
     ("D.en().write(|w| w.lv().bits(3));", 1, WrongType),
     (
@@ -120,7 +120,7 @@ const UNFIT_INDEXED: [(&str, u32, ScriptTyping); 6] = [
 #[test]
 fn indexes_in_a_script(rt: HostRuntime) -> Result<(), Fail> {
     let krate = typed(rt.alloc(), CHANNELS)?;
-    for (text, line, kind) in UNFIT_INDEXED {
+    for &(text, line, kind) in UNFIT_INDEXED {
         assert!(rt; unfit(rt.alloc(), &krate, text, line, kind), "{text}");
     }
     let last = "D.en().write(|w| w.ch(7).set_bit().lv(3).bits(3));";

@@ -4,7 +4,7 @@ use std::alloc::Global;
 use std::test::Fail;
 
 // Scripts, and how many statements each has.
-const READ: [(&str, usize); 15] = [
+const READ: &[(&str, usize)] = &[
     ("let s = A.b().read();", 1),
     ("A.b(0xF_f).write(|w| w);", 1),
     ("A.b(1_0).c().write(|w| w.bits(!true).x().y());", 1),
@@ -33,7 +33,7 @@ TIM2.ccr(1).write(|w| w.bits(0x1f4));
 ];
 
 // Scripts, and the first line of each that holds no statement.
-const REFUSED: [(&str, u32); 15] = [
+const REFUSED: &[(&str, u32)] = &[
     ("\n\nsay(1__0);", 3),
     ("// \r\n\nsay(0x_1);", 3),
     ("say(1);\n \t\r\nsay(1_);", 3),
@@ -66,10 +66,10 @@ fn read(alloc: Global, text: &str) -> Result<usize, u32> {
 
 #[test]
 fn scripts_with_their_statements(rt: HostRuntime) -> Result<(), Fail> {
-    for (text, count) in READ {
+    for &(text, count) in READ {
         assert!(rt; read(rt.alloc(), text) == Ok(count), "{text}");
     }
-    for (text, line) in REFUSED {
+    for &(text, line) in REFUSED {
         assert!(rt; read(rt.alloc(), text) == Err(line), "{text}");
     }
     Ok(())

@@ -7,7 +7,7 @@ use std::test::Fail;
 // Names that stand twice: of slots, modules, struct fields, accessors, markers, readers, writers, and of the calls
 // of one type. What is put in the place of what, once in the text of version 1, with the kind of the fault and
 // what begins the item at fault.
-const NAMES: [(&str, &str, CrateTyping, &str); 10] = [
+const NAMES: &[(&str, &str, CrateTyping, &str)] = &[
     (
         "pub S: ",
         "pub T: ",
@@ -67,7 +67,7 @@ const NAMES: [(&str, &str, CrateTyping, &str); 10] = [
 ];
 
 // Modules that aren't there, of slots, fields and accessors.
-const MODULES: [(&str, &str, CrateTyping, &str); 6] = [
+const MODULES: &[(&str, &str, CrateTyping, &str)] = &[
     ("S: Periph<t::", "S: Periph<v::", UnknownName, "pub S"),
     ("T: Periph<t::", "T: Periph<c::", UnknownName, "pub T"),
     ("a: Reg<a::", "a: Reg<b::", UnknownName, "a: Reg<b::"),
@@ -82,7 +82,7 @@ const MODULES: [(&str, &str, CrateTyping, &str); 6] = [
 ];
 
 // Bodies of accessors, and counts.
-const BODIES: [(&str, &str, CrateTyping, &str); 10] = [
+const BODIES: &[(&str, &str, CrateTyping, &str)] = &[
     ("&self.a }", "&self.b }", UnknownName, "pub fn a("),
     ("&self.a }", "&self._reserved0 }", WrongType, "pub fn a("),
     ("&self.a }", "&self.c }", WrongType, "pub fn a("),
@@ -117,7 +117,7 @@ const BODIES: [(&str, &str, CrateTyping, &str); 10] = [
 ];
 
 // Constants and readers.
-const READERS: [(&str, &str, CrateTyping, &str); 10] = [
+const READERS: &[(&str, &str, CrateTyping, &str)] = &[
     (
         "RESET_VALUE: u8",
         "RESET_VALUE: u16",
@@ -163,7 +163,7 @@ const READERS: [(&str, &str, CrateTyping, &str); 10] = [
 ];
 
 // Writers, and blocks of values.
-const WRITERS: [(&str, &str, CrateTyping, &str); 10] = [
+const WRITERS: &[(&str, &str, CrateTyping, &str)] = &[
     (
         "-> BitWriter<'_, Spec, E_F>",
         "-> BitWriter<'_, Spec, G_F>",
@@ -223,7 +223,7 @@ const WRITERS: [(&str, &str, CrateTyping, &str); 10] = [
 ];
 
 // Names of the prelude, directions, and ends of registers.
-const CALLS: [(&str, &str, CrateTyping, &str); 11] = [
+const CALLS: &[(&str, &str, CrateTyping, &str)] = &[
     ("pub fn x(", "pub fn at(", DoubleName, "pub fn at("),
     (
         "pub fn e(&self)",
@@ -275,7 +275,7 @@ const CALLS: [(&str, &str, CrateTyping, &str); 11] = [
 ];
 
 // The same of the text of version 2.
-const INDEXED: [(&str, &str, CrateTyping, &str); 11] = [
+const INDEXED: &[(&str, &str, CrateTyping, &str)] = &[
     // counts
     (
         "at_bit(0, 4, 8, n)) &",
@@ -355,7 +355,7 @@ pub(crate) fn breaks(alloc: Global, text: &str, kind: CrateTyping, item: &str) -
 
 #[test]
 fn distinct_names(rt: HostRuntime) -> Result<(), Fail> {
-    for (old, new, kind, item) in NAMES {
+    for &(old, new, kind, item) in NAMES {
         let text = edited(rt.alloc(), VALUED, old, new)?;
         assert!(rt; breaks(rt.alloc(), text.as_str(), kind, item), "{new}");
     }
@@ -364,7 +364,7 @@ fn distinct_names(rt: HostRuntime) -> Result<(), Fail> {
 
 #[test]
 fn named_modules(rt: HostRuntime) -> Result<(), Fail> {
-    for (old, new, kind, item) in MODULES {
+    for &(old, new, kind, item) in MODULES {
         let text = edited(rt.alloc(), VALUED, old, new)?;
         assert!(rt; breaks(rt.alloc(), text.as_str(), kind, item), "{new}");
     }
@@ -373,7 +373,7 @@ fn named_modules(rt: HostRuntime) -> Result<(), Fail> {
 
 #[test]
 fn bodies_and_counts(rt: HostRuntime) -> Result<(), Fail> {
-    for (old, new, kind, item) in BODIES {
+    for &(old, new, kind, item) in BODIES {
         let text = edited(rt.alloc(), VALUED, old, new)?;
         assert!(rt; breaks(rt.alloc(), text.as_str(), kind, item), "{new}");
     }
@@ -382,7 +382,7 @@ fn bodies_and_counts(rt: HostRuntime) -> Result<(), Fail> {
 
 #[test]
 fn constants_and_readers(rt: HostRuntime) -> Result<(), Fail> {
-    for (old, new, kind, item) in READERS {
+    for &(old, new, kind, item) in READERS {
         let text = edited(rt.alloc(), VALUED, old, new)?;
         assert!(rt; breaks(rt.alloc(), text.as_str(), kind, item), "{new}");
     }
@@ -391,7 +391,7 @@ fn constants_and_readers(rt: HostRuntime) -> Result<(), Fail> {
 
 #[test]
 fn writers_and_values(rt: HostRuntime) -> Result<(), Fail> {
-    for (old, new, kind, item) in WRITERS {
+    for &(old, new, kind, item) in WRITERS {
         let text = edited(rt.alloc(), VALUED, old, new)?;
         assert!(rt; breaks(rt.alloc(), text.as_str(), kind, item), "{new}");
     }
@@ -400,7 +400,7 @@ fn writers_and_values(rt: HostRuntime) -> Result<(), Fail> {
 
 #[test]
 fn calls_directions_and_ends(rt: HostRuntime) -> Result<(), Fail> {
-    for (old, new, kind, item) in CALLS {
+    for &(old, new, kind, item) in CALLS {
         let text = edited(rt.alloc(), VALUED, old, new)?;
         assert!(rt; breaks(rt.alloc(), text.as_str(), kind, item), "{new}");
     }
@@ -409,7 +409,7 @@ fn calls_directions_and_ends(rt: HostRuntime) -> Result<(), Fail> {
 
 #[test]
 fn indexed_calls(rt: HostRuntime) -> Result<(), Fail> {
-    for (old, new, kind, item) in INDEXED {
+    for &(old, new, kind, item) in INDEXED {
         let text = edited(rt.alloc(), CHANNELS, old, new)?;
         assert!(rt; breaks(rt.alloc(), text.as_str(), kind, item), "{new}");
     }

@@ -2,7 +2,7 @@ use crate::harness::{described, listing, lists, refusal};
 use std::test::Fail;
 
 // Peripherals of which some are derived, and the lines that list them.
-const DERIVED: [(&str, &str, &str); 3] = [
+const DERIVED: &[(&str, &str, &str)] = &[
     (
         "derived_chain",
         "<peripheral><name>A</name><baseAddress>0x40000000</baseAddress><resetValue>1</resetValue><registers><register><name>R</name><addressOffset>0</addressOffset></register></registers></peripheral><peripheral derivedFrom=\"A\"><name>B</name><baseAddress>0x40001000</baseAddress><resetValue>2</resetValue></peripheral><peripheral derivedFrom=\"B\"><name>C</name><baseAddress>0x40002000</baseAddress></peripheral>",
@@ -32,7 +32,7 @@ fn device(rt: &impl AllocGlobal, peripherals: &str) -> Result<String, Fail> {
 
 #[test]
 fn derived_chain(rt: HostRuntime) -> Result<(), Fail> {
-    for (row, peripherals, output) in DERIVED {
+    for &(row, peripherals, output) in DERIVED {
         let description = device(&rt, peripherals)?;
         lists(&rt, description.as_str(), &listing(row, output))?;
     }
@@ -40,7 +40,7 @@ fn derived_chain(rt: HostRuntime) -> Result<(), Fail> {
 }
 
 // What derived registers, fields and clusters of `T` are listed as.
-const WITHIN: [(&str, &str, &str); 4] = [
+const WITHIN: &[(&str, &str, &str)] = &[
     (
         "derived_register",
         "<register><name>A</name><addressOffset>0</addressOffset></register><register derivedFrom=\"A\"><name>B</name><addressOffset>4</addressOffset></register>",
@@ -67,7 +67,7 @@ const WITHIN: [(&str, &str, &str); 4] = [
 
 #[test]
 fn derived_within_a_peripheral(rt: HostRuntime) -> Result<(), Fail> {
-    for (row, registers, output) in WITHIN {
+    for &(row, registers, output) in WITHIN {
         let description = described(&rt, registers)?;
         lists(&rt, description.as_str(), &listing(row, output))?;
     }
@@ -75,7 +75,7 @@ fn derived_within_a_peripheral(rt: HostRuntime) -> Result<(), Fail> {
 }
 
 // Peripherals that can't be derived: with a circle, and with a source that isn't there, which counts before a circle.
-const REFUSED: [(&str, &str); 3] = [
+const REFUSED: &[(&str, &str)] = &[
     (
         "<peripheral derivedFrom=\"B\"><name>A</name><baseAddress>0</baseAddress></peripheral><peripheral derivedFrom=\"A\"><name>B</name><baseAddress>0</baseAddress></peripheral>",
         "A: derivedFrom runs in a circle",
@@ -92,7 +92,7 @@ const REFUSED: [(&str, &str); 3] = [
 
 #[test]
 fn circle_and_missing_source(rt: HostRuntime) -> Result<(), Fail> {
-    for (peripherals, fault) in REFUSED {
+    for &(peripherals, fault) in REFUSED {
         let description = device(&rt, peripherals)?;
         lists(&rt, description.as_str(), &refusal(fault, 8, fault))?;
     }
@@ -101,7 +101,7 @@ fn circle_and_missing_source(rt: HostRuntime) -> Result<(), Fail> {
 
 // The same within `T`: a register is no source of a field, a cluster depends on what is within it, and a set is told
 // by its field.
-const REFUSED_WITHIN: [(&str, &str); 4] = [
+const REFUSED_WITHIN: &[(&str, &str)] = &[
     (
         "<register><name>A</name><addressOffset>0</addressOffset><fields><field derivedFrom=\"A\"><name>F</name><bitOffset>0</bitOffset></field></fields></register>",
         "T.A.F: derivedFrom A is missing",
@@ -122,7 +122,7 @@ const REFUSED_WITHIN: [(&str, &str); 4] = [
 
 #[test]
 fn circle_and_missing_source_within_a_peripheral(rt: HostRuntime) -> Result<(), Fail> {
-    for (registers, fault) in REFUSED_WITHIN {
+    for &(registers, fault) in REFUSED_WITHIN {
         let description = described(&rt, registers)?;
         lists(&rt, description.as_str(), &refusal(fault, 8, fault))?;
     }
@@ -188,14 +188,14 @@ fn sixty_four_steps(rt: HostRuntime) -> Result<(), Fail> {
 }
 
 // Chains in which each cluster holds two that are derived from the one before: how long, and what is told.
-const DOUBLED: [(u32, &str); 2] = [
+const DOUBLED: &[(u32, &str)] = &[
     (18, "too many elements: 1572843"),
     (40, "too many elements: 6597069766613"),
 ];
 
 #[test]
 fn elements_are_counted_before_they_are_copied(rt: HostRuntime) -> Result<(), Fail> {
-    for (last, fault) in DOUBLED {
+    for &(last, fault) in DOUBLED {
         let description = chain(&rt, last, &["A", "B"])?;
         lists(&rt, description.as_str(), &refusal(fault, 11, fault))?;
     }

@@ -68,7 +68,7 @@ fn gap_edited(rt: HostRuntime) -> Result<(), Fail> {
 }
 
 // Scripts against the status register, with the bus and the lines that they print.
-const FLAGGED: [(&str, &str, &str); 6] = [
+const FLAGGED: &[(&str, &str, &str)] = &[
     (
         "T.sr().write(|w| w.f1().set_bit());",
         "zero",
@@ -96,7 +96,7 @@ const FLAGGED: [(&str, &str, &str); 6] = [
 #[test]
 fn events_of_scripts(rt: HostRuntime) -> Result<(), Fail> {
     let text = flagged(&rt, "", "1")?;
-    for (script, bus, output) in FLAGGED {
+    for &(script, bus, output) in FLAGGED {
         executes(&rt, text.as_str(), script, bus, &listing(script, output))?;
     }
     let text = flagged(&rt, "_reserved0: [u8; 4],", "1")?;
@@ -126,7 +126,7 @@ fn edited_text_refused(rt: HostRuntime) -> Result<(), Fail> {
 }
 
 // Scripts that are refused, with the fault.
-const REFUSED: [(&str, &str); 8] = [
+const REFUSED: &[(&str, &str)] = &[
     ("let a = T.a().read();", "script line 1: no such call"),
     ("T.b().reset();", "script line 1: no such call"),
     ("T.a().reset();\nT.a().reset()", "script line 2: syntax"),
@@ -145,7 +145,7 @@ const REFUSED: [(&str, &str); 8] = [
 
 #[test]
 fn directions_refused(rt: HostRuntime) -> Result<(), Fail> {
-    for (script, fault) in REFUSED {
+    for &(script, fault) in REFUSED {
         executes(&rt, ONE_WAY, script, "zero", &refusal(script, 10, fault))?;
     }
     Ok(())

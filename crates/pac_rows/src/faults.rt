@@ -2,7 +2,7 @@ use crate::harness::{described, lists, refusal};
 use std::test::Fail;
 
 // Registers of `T` that are refused as a whole.
-const REFUSED: [(&str, &str, &str); 7] = [
+const REFUSED: &[(&str, &str, &str)] = &[
     (
         "misaligned",
         "<register><name>A</name><addressOffset>2</addressOffset></register>",
@@ -42,7 +42,7 @@ const REFUSED: [(&str, &str, &str); 7] = [
 
 #[test]
 fn check_faults(rt: HostRuntime) -> Result<(), Fail> {
-    for (row, registers, fault) in REFUSED {
+    for &(row, registers, fault) in REFUSED {
         let description = described(&rt, registers)?;
         lists(&rt, description.as_str(), &refusal(row, 8, fault))?;
     }
@@ -50,7 +50,7 @@ fn check_faults(rt: HostRuntime) -> Result<(), Fail> {
 }
 
 // Descriptions whose text is refused.
-const DESCRIPTION_FAULTS: [(&str, &str); 24] = [
+const DESCRIPTION_FAULTS: &[(&str, &str)] = &[
     ("", "description: syntax at byte 0"),
     (
         "<device><name>D</name></device>",
@@ -149,7 +149,7 @@ const DESCRIPTION_FAULTS: [(&str, &str); 24] = [
 
 #[test]
 fn description_faults(rt: HostRuntime) -> Result<(), Fail> {
-    for (description, fault) in DESCRIPTION_FAULTS {
+    for &(description, fault) in DESCRIPTION_FAULTS {
         lists(&rt, description, &refusal(fault, 6, fault))?;
     }
     Ok(())

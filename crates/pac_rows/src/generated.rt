@@ -11,7 +11,7 @@ pub struct Peripherals {
 const VERSION_TWO: &str = "pub const CRATE_TEXT: u32 = 0x2;\n";
 
 // Registers of `T`, and what stands behind the first lines of the text of its crate.
-const GENERATED: [(&str, &str, &str); 3] = [
+const GENERATED: &[(&str, &str, &str)] = &[
     (
         "one_to_clear_mask",
         "<register><name>SR</name><addressOffset>0</addressOffset><resetValue>3</resetValue><fields><field><name>F0</name><bitOffset>0</bitOffset><bitWidth>1</bitWidth><modifiedWriteValues>oneToClear</modifiedWriteValues></field><field><name>F1</name><bitOffset>1</bitOffset><bitWidth>1</bitWidth></field></fields></register>",
@@ -165,7 +165,7 @@ fn generates(
 
 #[test]
 fn generated_crates(rt: HostRuntime) -> Result<(), Fail> {
-    for (row, registers, text) in GENERATED {
+    for &(row, registers, text) in GENERATED {
         generates(&rt, row, registers, "", text)?;
     }
     Ok(())

@@ -7,7 +7,7 @@ use std::test::Fail;
 
 // Two files, of which the second may have three bytes: what the second holds, where it is there, the read that fails, and
 // the inputs, or the line of the fault.
-const TWO_FILES: [(Option<&str>, u64, &str); 6] = [
+const TWO_FILES: &[(Option<&str>, u64, &str)] = &[
     (Some("abc"), 3, "first\nabc\n"),
     (Some(""), 3, "first\n\n"),
     (Some("abcd"), 3, "pac: b is longer than 3 bytes\n"),
@@ -18,7 +18,7 @@ const TWO_FILES: [(Option<&str>, u64, &str); 6] = [
 
 #[test]
 fn two_files(rt: HostRuntime) -> Result<(), Fail> {
-    for (second, failing, wanted) in TWO_FILES {
+    for &(second, failing, wanted) in TWO_FILES {
         let mut files = MemFiles::new(rt.alloc());
         files.add("a", b"first")?;
         if let Some(second) = second {

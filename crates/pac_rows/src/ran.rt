@@ -3,7 +3,7 @@ use pac_io::{MemFiles, MemSink};
 use std::test::Fail;
 
 // Registers of `T`, a script, the bus, and the lines that it prints.
-const RUNS: [(&str, &str, &str, &str); 11] = [
+const RUNS: &[(&str, &str, &str, &str)] = &[
     (
         "<register><name>SR</name><addressOffset>0</addressOffset><resetValue>3</resetValue><fields><field><name>F0</name><bitOffset>0</bitOffset><bitWidth>1</bitWidth><modifiedWriteValues>oneToClear</modifiedWriteValues></field><field><name>F1</name><bitOffset>1</bitOffset><bitWidth>1</bitWidth></field></fields></register>",
         "T.sr().write(|w| w.f1().set_bit());",
@@ -85,7 +85,7 @@ fn files(rt: &impl AllocGlobal, description: &str, script: &str) -> Result<MemFi
 
 #[test]
 fn run_as_the_table_says(rt: HostRuntime) -> Result<(), Fail> {
-    for (registers, script, bus, output) in RUNS {
+    for &(registers, script, bus, output) in RUNS {
         let description = described(&rt, registers)?;
         let files = files(&rt, description.as_str(), script)?;
         let out = MemSink::new(rt.alloc());
@@ -96,7 +96,7 @@ fn run_as_the_table_says(rt: HostRuntime) -> Result<(), Fail> {
 }
 
 // Scripts that don't fit the one register of `T`, or aren't scripts, with the fault.
-const FAULTS: [(&str, &str); 4] = [
+const FAULTS: &[(&str, &str)] = &[
     (
         "let a = T.cr().read();\nlet a = T.cr().read();",
         "script line 2: name bound twice",
@@ -111,7 +111,7 @@ const FAULTS: [(&str, &str); 4] = [
 
 #[test]
 fn script_faults(rt: HostRuntime) -> Result<(), Fail> {
-    for (script, fault) in FAULTS {
+    for &(script, fault) in FAULTS {
         let files = files(&rt, ONE_REGISTER, script)?;
         let out = MemSink::new(rt.alloc());
         call(

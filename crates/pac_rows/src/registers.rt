@@ -10,7 +10,7 @@ const TWO_PERIPHERALS: &str = "\n<device>\t<name>Timers 2</name>\r\n <peripheral
   </peripheral><peripheral><name>NONE</name><baseAddress>0</baseAddress><registers> </registers></peripheral></peripherals> </device>\n";
 
 // Descriptions, and the lines that list each.
-const DESCRIPTIONS: [(&str, &str, &str); 5] = [
+const DESCRIPTIONS: &[(&str, &str, &str)] = &[
     (
         "plain_register",
         ONE_REGISTER,
@@ -40,14 +40,14 @@ const DESCRIPTIONS: [(&str, &str, &str); 5] = [
 
 #[test]
 fn listed_descriptions(rt: HostRuntime) -> Result<(), Fail> {
-    for (row, description, output) in DESCRIPTIONS {
+    for &(row, description, output) in DESCRIPTIONS {
         lists(&rt, description, &listing(row, output))?;
     }
     Ok(())
 }
 
 // Registers of `T`, and the lines that list them.
-const LISTED: [(&str, &str, &str); 10] = [
+const LISTED: &[(&str, &str, &str)] = &[
     (
         "whole_64_bit_word",
         "<register><name>L</name><addressOffset>0</addressOffset><size>64</size><fields><field><name>V</name><bitOffset>0</bitOffset><bitWidth>64</bitWidth></field></fields></register>",
@@ -102,7 +102,7 @@ const LISTED: [(&str, &str, &str); 10] = [
 
 #[test]
 fn listed_registers(rt: HostRuntime) -> Result<(), Fail> {
-    for (row, registers, output) in LISTED {
+    for &(row, registers, output) in LISTED {
         let description = described(&rt, registers)?;
         lists(&rt, description.as_str(), &listing(row, output))?;
     }

@@ -32,7 +32,7 @@ fn lists_strictly(
 }
 
 // Registers of `T` that overlap: what lists them, and how they are refused under `--strict`.
-const OVERLAPPING: [(&str, &str, &str); 2] = [
+const OVERLAPPING: &[(&str, &str, &str)] = &[
     (
         ALTERNATES,
         LISTED,
@@ -47,7 +47,7 @@ const OVERLAPPING: [(&str, &str, &str); 2] = [
 
 #[test]
 fn overlaps(rt: HostRuntime) -> Result<(), Fail> {
-    for (registers, output, fault) in OVERLAPPING {
+    for &(registers, output, fault) in OVERLAPPING {
         let description = described(&rt, registers)?;
         lists(&rt, description.as_str(), &listing(fault, output))?;
         lists_strictly(&rt, registers, &refusal(fault, 8, fault))?;

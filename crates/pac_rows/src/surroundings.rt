@@ -8,7 +8,7 @@ const USAGE: &str =
     "usage: pac list SVD, generate SVD, exec CRATE SCRIPT, run SVD SCRIPT or sample NUMBER COUNT, with --patch P, --strict, --bus zero or memory";
 
 // Words that are those of no command.
-const WORDS: [&[&str]; 27] = [
+const WORDS: &[&[&str]] = &[
     &[],
     &[""],
     &["--"],
@@ -40,7 +40,7 @@ const WORDS: [&[&str]; 27] = [
 
 #[test]
 fn words_of_no_command(rt: HostRuntime) -> Result<(), Fail> {
-    for words in WORDS {
+    for &words in WORDS {
         let files = MemFiles::new(rt.alloc());
         let out = MemSink::new(rt.alloc());
         call(&rt, words, files, out, &refusal("words", 2, USAGE))?;
@@ -49,7 +49,7 @@ fn words_of_no_command(rt: HostRuntime) -> Result<(), Fail> {
 }
 
 // Words that name a file, and the name.
-const FILE_WORDS: [(&[&str], &str); 13] = [
+const FILE_WORDS: &[(&[&str], &str)] = &[
     (&["generate", "x.svd"], "cannot read x.svd"),
     (&["list", "x.svd"], "cannot read x.svd"),
     (&["list", "--strict", "x.svd"], "cannot read x.svd"),
@@ -76,7 +76,7 @@ const FILE_WORDS: [(&[&str], &str); 13] = [
 
 #[test]
 fn words_that_name_a_file(rt: HostRuntime) -> Result<(), Fail> {
-    for (words, fault) in FILE_WORDS {
+    for &(words, fault) in FILE_WORDS {
         let files = MemFiles::new(rt.alloc());
         let out = MemSink::new(rt.alloc());
         call(&rt, words, files, out, &refusal(fault, 3, fault))?;

@@ -17,7 +17,7 @@ fn answer(alloc: Global, bytes: &[u8]) -> Result<(&'static str, u32), Fail> {
 }
 
 /// Texts that spell a node.
-const SPELLED: [&str; 10] = [
+const SPELLED: &[&str] = &[
     "",
     "a:\nb:\n- 1\nc:\n  - 2\nd:\n   e:\n     f: 3\n   g:\nh: {i: 4}",
     "a:\n  b: 1\nc:\n  b: 2",
@@ -31,7 +31,7 @@ const SPELLED: [&str; 10] = [
 ];
 
 /// Texts that spell none, each with its first fault and the line of that.
-const REFUSED: [(&str, &str, u32); 28] = [
+const REFUSED: &[(&str, &str, u32)] = &[
     ("a: &b c", "syntax", 1),
     ("a: *b", "syntax", 1),
     ("a: !t c", "syntax", 1),
@@ -64,13 +64,13 @@ const REFUSED: [(&str, &str, u32); 28] = [
 
 #[test]
 fn blocks_and_their_first_faults(rt: HostRuntime) -> Result<(), Fail> {
-    for text in SPELLED {
+    for &text in SPELLED {
         assert!(rt;
             answer(rt.alloc(), text.as_bytes())? == ("fits", 0),
             "{text}"
         );
     }
-    for (text, said, line) in REFUSED {
+    for &(text, said, line) in REFUSED {
         assert!(rt;
             answer(rt.alloc(), text.as_bytes())? == (said, line),
             "{text}"
@@ -94,7 +94,7 @@ fn nested(alloc: Global, levels: usize, last: &str) -> Result<Vec<u8>, Fail> {
 }
 
 /// How many mappings nest, what the last line is, and what the whole is. A list is one level more.
-const NESTED: [(usize, &str, &str, u32); 4] = [
+const NESTED: &[(usize, &str, &str, u32)] = &[
     (64, "a: b", "fits", 0),
     (64, "a: []", "too deep", 64),
     (65, "a: b", "too deep", 64),
@@ -103,7 +103,7 @@ const NESTED: [(usize, &str, &str, u32); 4] = [
 
 #[test]
 fn sixty_four_levels(rt: HostRuntime) -> Result<(), Fail> {
-    for (levels, last, said, line) in NESTED {
+    for &(levels, last, said, line) in NESTED {
         let text = nested(rt.alloc(), levels, last)?;
         assert!(rt;
             answer(rt.alloc(), text.as_slice())? == (said, line),

@@ -63,7 +63,7 @@ fn are_rows(alloc: Global, text: &str, rows: &[Row]) -> Result<bool, Fail> {
     Ok(made.len() == index)
 }
 
-const DELETIONS_FIRST: [Row; 3] = [
+const DELETIONS_FIRST: &[Row] = &[
     (1, "", "T", "open"),
     (1, "T", "B", "delete"),
     (1, "T", "", "strip A_"),
@@ -72,7 +72,7 @@ const DELETIONS_FIRST: [Row; 3] = [
 #[test]
 fn deletions_come_before_prefixes(rt: HostRuntime) -> Result<(), Fail> {
     let text = "T: {_strip: A_, _delete: B}";
-    assert!(rt; are_rows(rt.alloc(), text, &DELETIONS_FIRST)?);
+    assert!(rt; are_rows(rt.alloc(), text, DELETIONS_FIRST)?);
     Ok(())
 }
 
@@ -101,7 +101,7 @@ TIM2:
     CCR*: {}
 ";
 
-const VENDOR_ROWS: [Row; 7] = [
+const VENDOR_ROWS: &[Row] = &[
     (3, "", "TIM2", "open"),
     (5, "TIM2", "TIM_OLD", "delete"),
     (7, "TIM2", "", "copy TIM_PSC TIM_CNT addressOffset=0x28"),
@@ -123,7 +123,7 @@ const VENDOR_ROWS: [Row; 7] = [
 
 #[test]
 fn commands_of_a_vendors_patch(rt: HostRuntime) -> Result<(), Fail> {
-    assert!(rt; are_rows(rt.alloc(), VENDOR, &VENDOR_ROWS)?);
+    assert!(rt; are_rows(rt.alloc(), VENDOR, VENDOR_ROWS)?);
     Ok(())
 }
 
@@ -139,7 +139,7 @@ fn fault_in(alloc: Global, text: &str) -> Result<(&'static str, u32), Fail> {
 }
 
 /// Texts, and the first fault of each: by line, and on one line by kind.
-const FAULTS: [(&str, &str, u32); 4] = [
+const FAULTS: &[(&str, &str, u32)] = &[
     ("_include: x.yaml", "unknown command", 1),
     ("T[:", "bad pattern", 1),
     ("T: {_delete: 'A[', _frob: B}", "unknown command", 1),
@@ -152,7 +152,7 @@ const FAULTS: [(&str, &str, u32); 4] = [
 
 #[test]
 fn block_and_command_faults(rt: HostRuntime) -> Result<(), Fail> {
-    for (text, said, line) in FAULTS {
+    for &(text, said, line) in FAULTS {
         assert!(rt; fault_in(rt.alloc(), text)? == (said, line), "{text}");
     }
     Ok(())

@@ -3,7 +3,7 @@ use std::alloc::Global;
 use std::test::Fail;
 
 // Patterns, with names that each matches and others that it doesn't.
-const MATCHES: [(&str, &[&str], &[&str]); 3] = [
+const MATCHES: &[(&str, &[&str], &[&str])] = &[
     (
         "TIM[1-3]*, USART? ",
         &["TIM1", "TIM10", "TIM3A", "USART1"],
@@ -29,7 +29,7 @@ fn has_all(pattern: &Pattern, names: &[&str], wanted: bool) -> bool {
 
 #[test]
 fn patterns_match_whole_names(rt: HostRuntime) -> Result<(), Fail> {
-    for (text, names, others) in MATCHES {
+    for &(text, names, others) in MATCHES {
         let pattern = Pattern::new(rt.alloc(), text.as_bytes())?;
         assert!(rt; has_all(&pattern, names, true), "{text}");
         assert!(rt; has_all(&pattern, others, false), "{text}");
@@ -46,7 +46,7 @@ fn many_stars_answer_at_once(rt: HostRuntime) -> Result<(), Fail> {
 }
 
 // Texts that are no pattern, with the place at which each stops being one.
-const BAD: [(&str, usize); 10] = [
+const BAD: &[(&str, usize)] = &[
     ("A:B", 1),
     ("", 0),
     (" ", 1),
@@ -68,7 +68,7 @@ fn bad_at(alloc: Global, text: &str) -> Option<usize> {
 
 #[test]
 fn other_texts_are_bad_patterns(rt: HostRuntime) -> Result<(), Fail> {
-    for (text, place) in BAD {
+    for &(text, place) in BAD {
         assert!(rt; bad_at(rt.alloc(), text) == Some(place), "{text}");
     }
     Ok(())
