@@ -33,8 +33,7 @@ use Rattle.svd_model.specs.Facts.{IsUnfoldedElement, element_limit, is_counted}
 use Rattle.svd_model.specs.Keys.{Key}
 use Rattle.svd_model.specs.Properties.{access_at, can_read, can_write, holding, register_properties, size_at}
 use Rattle.svd_model.specs.Steps.{Step, field, set, value}
-use Rattle.svd_model.specs.Trees.{field_under, numbered, register_places, register_tree, set_tree, value_tree}
-use Rattle.svd_model.specs.Unbuilt.{register_under}
+use Rattle.svd_model.specs.Trees.{field_under, numbered, register_places, register_tree, set_tree, value_tree, register_under}
 use Rattle.svd_model.proofs.Stated.{register-props}
 use Rattle.svd_rows.specs.Elements.{Every, count}
 use Rattle.svd_rows.specs.Forest.{Forest, siblings, steps}

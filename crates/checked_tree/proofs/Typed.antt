@@ -14,8 +14,7 @@ use Rattle.svd_model.specs.declared.sibling.Sibling.{Sibling}
 use Rattle.svd_model.specs.Keys.{Key}
 use Rattle.svd_model.specs.Stating.{value_of, stated_base}
 use Rattle.svd_model.specs.Steps.{Kind, Step, cluster, register}
-use Rattle.svd_model.specs.Trees.{child_tree, item_under, step_of}
-use Rattle.svd_model.specs.Unbuilt.{cluster_under, register_under}
+use Rattle.svd_model.specs.Trees.{child_tree, item_under, step_of, cluster_under, register_under}
 use Rattle.svd_model.proofs.Stated.{cluster-base, register-base}
 use Rattle.svd_model.proofs.Trees.{child_tree-cluster, child_tree-register, cluster_tree-is, item_under-roll}
 use Rattle.svd_rows.specs.Forest.{Forest, Tree, leaf, node, siblings}

@@ -20,8 +20,7 @@ use Rattle.svd_model.specs.declared.props.Props.{Props}
 use Rattle.svd_model.specs.declared.sibling.Sibling.{Sibling}
 use Rattle.svd_model.specs.Checking.{bytes_of, width_of}
 use Rattle.svd_model.specs.Properties.{holding, register_properties, size_at}
-use Rattle.svd_model.specs.Trees.{item_under, register_places, register_tree}
-use Rattle.svd_model.specs.Unbuilt.{cluster_under, register_under}
+use Rattle.svd_model.specs.Trees.{item_under, register_places, register_tree, cluster_under, register_under}
 use Rattle.svd_model.proofs.Stated.{cluster-dim, cluster-increment, cluster-offset, register-dim, register-increment, register-offset}
 use Rattle.svd_rows.specs.Forest.{siblings}
 use Rattle.svd_rows.specs.Ranks.{stated}

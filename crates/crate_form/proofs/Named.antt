@@ -16,8 +16,7 @@ use Rattle.svd_model.specs.declared.device.Field.{Field}
 use Rattle.svd_model.specs.declared.device.Register.{Register}
 use Rattle.svd_model.specs.declared.props.Props.{Props}
 use Rattle.svd_model.specs.declared.sibling.Sibling.{Sibling}
-use Rattle.svd_model.specs.Trees.{field_under, register_places, register_tree}
-use Rattle.svd_model.specs.Unbuilt.{register_under}
+use Rattle.svd_model.specs.Trees.{field_under, register_places, register_tree, register_under}
 use Rattle.svd_rows.specs.Forest.{siblings, steps}
 use Rattle.svd_rows.specs.Ranks.{stated}
 use Rattle.svd_values.specs.Identifiers.{IsCallName}

@@ -19,8 +19,7 @@ use Rattle.svd_model.specs.Keys.{Key}
 use Rattle.svd_model.specs.Properties.{holding, register_properties, size_at}
 use Rattle.svd_model.specs.Stating.{start_of, stated_increment, value_of}
 use Rattle.svd_model.specs.Steps.{Step, cluster}
-use Rattle.svd_model.specs.Trees.{cluster_places, item_under, peripheral_places, peripheral_under, register_places, register_tree, step_of}
-use Rattle.svd_model.specs.Unbuilt.{cluster_under, register_under}
+use Rattle.svd_model.specs.Trees.{cluster_places, item_under, peripheral_places, peripheral_under, register_places, register_tree, step_of, cluster_under, register_under}
 use Rattle.svd_model.proofs.Stated.{cluster-base, cluster-offset, cluster-props, peripheral-base, peripheral-props, register-props}
 use Rattle.svd_model.proofs.Trees.{cluster_tree-is}
 use Rattle.svd_rows.specs.Forest.{Forest, Tree, siblings}

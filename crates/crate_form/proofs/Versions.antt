@@ -29,8 +29,7 @@ use Rattle.svd_model.specs.Keys.{Key}
 use Rattle.svd_model.specs.Properties.{access_at, can_read, can_write, holding}
 use Rattle.svd_model.specs.Stating.{is_of, stated_dim, stated_increment, value_of}
 use Rattle.svd_model.specs.Steps.{Step, register}
-use Rattle.svd_model.specs.Trees.{cluster_places, device_rows, device_tree, field_tree, item_under, peripheral_places, peripheral_under, register_places, register_tree}
-use Rattle.svd_model.specs.Unbuilt.{cluster_under, register_under}
+use Rattle.svd_model.specs.Trees.{cluster_places, device_rows, device_tree, field_tree, item_under, peripheral_places, peripheral_under, register_places, register_tree, cluster_under, register_under}
 use Rattle.svd_rows.specs.Forest.{Forest, Tree, leaf, node, siblings}
 use Rattle.svd_rows.specs.LookUps.{keys_of}
 use Rattle.svd_rows.specs.Ranks.{stated}

@@ -9,8 +9,7 @@ ghost use Rattle.frag_tree.specs.Trees.{in_line};
 ghost use Rattle.rust_names.specs.Identifiers.{IsIdentifier};
 ghost use Rattle.svd_model.specs.declared.device.Cluster.{out-Cluster};
 ghost use Rattle.svd_model.specs.Properties.{holding};
-ghost use Rattle.svd_model.specs.Trees.{item_under};
-ghost use Rattle.svd_model.specs.Unbuilt.{cluster_under, register_under};
+ghost use Rattle.svd_model.specs.Trees.{item_under, cluster_under, register_under};
 ghost use Rattle.svd_rows.specs.Forest.{siblings};
 ghost use Rattle.svd_values.specs.AccessorNames.{accessor_name};
 

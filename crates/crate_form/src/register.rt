@@ -2,7 +2,7 @@ ghost use Rattle.std.specs.Prelude.{◌≡◌, ◌≢◌, [], map, option_map, I
 ghost use Rattle.std.specs.List.{AllByRecursion};
 ghost use Rattle.crate_form.specs.Elements.{CallIsNamed, FieldIsReady, HasName, IsMarked, StandsAlone, entry_marker, register_at};
 ghost use Rattle.crate_form.specs.Registers.{bit_kind, field_array, field_of, marked, number_call};
-ghost use Rattle.svd_model.specs.Unbuilt.{register_under};
+ghost use Rattle.svd_model.specs.Trees.{register_under};
 
 use crate::name::{accessor_of, identifier, marker_of, some_name};
 use frag_tree::{BitKind, Identifier, NumberCall};

@@ -8,7 +8,7 @@ use Rattle.std.proofs.lemmas.List.Folds.{list_any-append}
 use Rattle.derive_build.specs.declared.own.Own.{Own}
 use Rattle.derive_build.specs.Children.{child_of, children_of, first_named, HoldsFirst, HoldsNames}
 use Rattle.derived_graph.specs.Graphs.{Child}
-use Rattle.svd_model.proofs.SoughtKeys.{from_place, drop_past}
+use Rattle.svd_model.proofs.Lists.{from_place, drop_past}
 use Rattle.derived_rows.specs.Merging.{has_named, replaced_by, kept, added, merged}
 
 module _ (owns : List Own) where

@@ -18,8 +18,7 @@ use Rattle.svd_model.specs.Keys.{Key}
 use Rattle.svd_model.specs.Properties.{holding, size_at}
 use Rattle.svd_model.specs.Stating.{value_of, start_of, stated_dim, indexes_of, is_of}
 use Rattle.svd_model.specs.Steps.{Step, cluster, register}
-use Rattle.svd_model.specs.Trees.{item_under, register_tree, peripheral_under, register_places, cluster_places, step_of}
-use Rattle.svd_model.specs.Unbuilt.{register_under, cluster_under}
+use Rattle.svd_model.specs.Trees.{item_under, register_tree, peripheral_under, register_places, cluster_places, step_of, register_under, cluster_under}
 use Rattle.svd_model.proofs.Trees.{cluster_tree-is}
 use Rattle.svd_rows.specs.Elements.{Every}
 use Rattle.svd_rows.specs.Forest.{Forest, Tree, leaf, node, siblings}

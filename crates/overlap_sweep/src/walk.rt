@@ -5,8 +5,7 @@ ghost use Rattle.svd_model.specs.declared.device.Cluster.{out-Cluster};
 ghost use Rattle.svd_model.specs.Checking.{bytes_of, width_of};
 ghost use Rattle.svd_model.specs.Properties.{holding, size_at};
 ghost use Rattle.svd_model.specs.Stating.{stated_dim, value_of};
-ghost use Rattle.svd_model.specs.Trees.{device_tree, item_under, peripheral_under};
-ghost use Rattle.svd_model.specs.Unbuilt.{cluster_under, register_under};
+ghost use Rattle.svd_model.specs.Trees.{device_tree, item_under, peripheral_under, cluster_under, register_under};
 ghost use Rattle.svd_rows.specs.Forest.{siblings};
 
 use crate::field::shared_fields;

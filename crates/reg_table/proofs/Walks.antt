@@ -27,8 +27,7 @@ use Rattle.svd_model.specs.Keys.{Key}
 use Rattle.svd_model.specs.Properties.{nearest, holding, size_at}
 use Rattle.svd_model.specs.Stating.{value_of, start_of, stated_base, stated_offset, stated_increment, stated_dim, stated_width, indexes_of, is_of}
 use Rattle.svd_model.specs.Steps.{Step, set, value, cluster, register, same_step}
-use Rattle.svd_model.specs.Trees.{item_under, child_tree, field_under, register_tree, peripheral_under, register_places, cluster_places, peripheral_places, field_places, step_of, set_tree, value_tree, numbered}
-use Rattle.svd_model.specs.Unbuilt.{register_under, cluster_under}
+use Rattle.svd_model.specs.Trees.{item_under, child_tree, field_under, register_tree, peripheral_under, register_places, cluster_places, peripheral_places, field_places, step_of, set_tree, value_tree, numbered, register_under, cluster_under}
 use Rattle.svd_model.proofs.Stated.{register-props, cluster-props, peripheral-props, register-base, register-offset, cluster-base, cluster-offset, register-dim, register-increment, cluster-dim, cluster-increment, peripheral-base, peripheral-offset, field-offset, field-width, field-size}
 use Rattle.svd_model.proofs.Trees.{child_tree-cluster, child_tree-register, cluster_tree-is, item_under-is}
 use Rattle.svd_rows.specs.Elements.{IsDistinct, Every}

@@ -5,8 +5,7 @@ ghost use Rattle.reg_table.specs.Walk.{AllFit, FitIn, IsAmong, index_at, member_
 ghost use Rattle.svd_model.specs.declared.device.Cluster.{out-Cluster};
 ghost use Rattle.svd_model.specs.Properties.{holding};
 ghost use Rattle.svd_model.specs.Stating.{stated_dim, value_of};
-ghost use Rattle.svd_model.specs.Trees.{item_under};
-ghost use Rattle.svd_model.specs.Unbuilt.{cluster_under, register_under};
+ghost use Rattle.svd_model.specs.Trees.{item_under, cluster_under, register_under};
 ghost use Rattle.svd_rows.specs.Forest.{siblings};
 
 use crate::register::register_row;

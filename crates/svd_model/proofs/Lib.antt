@@ -1,10 +1,8 @@
 pub mod Copies
 pub mod Entries
+pub mod Lists
 pub mod Nesting
 pub mod Placed
-pub mod Seeking
-pub mod Served
-pub mod SoughtKeys
 pub mod Stated
 pub mod Steps
 pub mod Trees

@@ -91,6 +91,10 @@ abbrev pub register_tree : Register → Tree Step Key
 register_tree element =
     record { keys = stated (register_places element); below = siblings (map field_under element.fields.entries) }
 
+-- a register under its key
+abbrev pub register_under : Sibling → Register → (Step × Tree Step Key)
+register_under key inner = (step_of register key, register_tree inner)
+
 -- a child with its kind
 abbrev pub child_layer : Child-F (Kind × Tree Step Key) (Tree Step Key) (Step × Tree Step Key) → (Kind × Tree Step Key)
 child_layer (opened.Cluster tree) = (cluster, tree)
@@ -109,6 +113,10 @@ child_tree = fold-Child (Kind × Tree Step Key) (Tree Step Key) (Step × Tree St
 
 unfoldable pub cluster_tree : Cluster → Tree Step Key
 cluster_tree = fold-Cluster (Kind × Tree Step Key) (Tree Step Key) (Step × Tree Step Key) child_layer cluster_layer item_layer
+
+-- a cluster under its key
+abbrev pub cluster_under : Sibling → Cluster → (Step × Tree Step Key)
+cluster_under key inner = (step_of cluster key, cluster_tree inner)
 
 unfoldable pub item_under : Item → (Step × Tree Step Key)
 item_under = fold-Item (Kind × Tree Step Key) (Tree Step Key) (Step × Tree Step Key) child_layer cluster_layer item_layer

@@ -22,8 +22,7 @@ use Rattle.svd_model.specs.Keys.{Key}
 use Rattle.svd_model.specs.Properties.{holding}
 use Rattle.svd_model.specs.Stating.{value_of, stated_dim, indexes_of}
 use Rattle.svd_model.specs.Steps.{Kind, Step}
-use Rattle.svd_model.specs.Trees.{child_tree, device_tree, item_under, peripheral_under, step_of}
-use Rattle.svd_model.specs.Unbuilt.{cluster_under, register_under}
+use Rattle.svd_model.specs.Trees.{child_tree, device_tree, item_under, peripheral_under, step_of, cluster_under, register_under}
 use Rattle.svd_model.proofs.Stated.{cluster-dim, register-dim}
 use Rattle.svd_model.proofs.Trees.{child_tree-cluster, child_tree-register, cluster_tree-is, item_under-roll}
 use Rattle.svd_rows.specs.Forest.{Tree, siblings}

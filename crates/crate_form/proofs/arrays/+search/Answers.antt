@@ -8,7 +8,7 @@ use Rattle.svd_model.specs.Keys.{Key}
 use Rattle.svd_model.specs.Properties.{holding}
 use Rattle.svd_model.specs.Steps.{Step}
 use Rattle.svd_model.specs.Trees.{item_under}
-use Rattle.svd_model.proofs.SoughtKeys.{drop_past, from_place}
+use Rattle.svd_model.proofs.Lists.{drop_past, from_place}
 use Rattle.svd_rows.specs.Forest.{Tree, siblings}
 use Rattle.crate_form.specs.Crates.{takes_indexes}
 use Rattle.crate_form.specs.Elements.{HaveArrays, StandsAlone}

@@ -7,7 +7,7 @@ use Rattle.svd_model.specs.declared.device.Cluster.{out-Cluster}
 use Rattle.svd_model.specs.declared.device.Item.{Item}
 use Rattle.svd_model.specs.declared.props.Props.{Props}
 use Rattle.svd_model.specs.Trees.{item_under}
-use Rattle.svd_model.proofs.SoughtKeys.{drop_past, from_place}
+use Rattle.svd_model.proofs.Lists.{drop_past, from_place}
 use Rattle.svd_rows.specs.Forest.{siblings}
 use Rattle.crate_form.specs.Children.{children_of}
 use Rattle.crate_form.specs.Elements.{StandsAlone, child_at}

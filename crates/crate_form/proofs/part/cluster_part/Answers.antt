@@ -7,8 +7,7 @@ use Rattle.frag_tree.specs.Trees.{in_line, one_block}
 use Rattle.frag_tree.proofs.Trees.{module_tree-block}
 use Rattle.svd_model.specs.declared.device.Cluster.{out-Cluster}
 use Rattle.svd_model.specs.Properties.{holding}
-use Rattle.svd_model.specs.Trees.{item_under}
-use Rattle.svd_model.specs.Unbuilt.{cluster_under}
+use Rattle.svd_model.specs.Trees.{item_under, cluster_under}
 use Rattle.svd_rows.specs.Forest.{siblings}
 use Rattle.svd_values.specs.AccessorNames.{accessor_name}
 use Rattle.crate_form.specs.Children.{children_of}

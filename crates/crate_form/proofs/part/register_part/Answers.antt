@@ -7,7 +7,7 @@ use Rattle.frag_tree.proofs.Trees.{module_tree-register}
 use Rattle.register_form.specs.declared.register.Register.{Register}
 use Rattle.register_form.specs.Fields.{HasBits}
 use Rattle.register_form.specs.Forms.{form_of}
-use Rattle.svd_model.specs.Unbuilt.{register_under}
+use Rattle.svd_model.specs.Trees.{register_under}
 use Rattle.crate_form.specs.Parts.{valid_unit}
 use Rattle.crate_form.proofs.Elements.{bytes-register, child-made}
 use Rattle.crate_form.proofs.Named.{register_bits}

@@ -2,7 +2,7 @@
 use Rattle.std.proofs.Common.{◌∙◌, map, sym, ap, subst}
 use Rattle.std.specs.List.{AllByRecursion}
 use Rattle.reg_table.specs.declared.row.Row.{Row as TableRow}
-use Rattle.svd_model.specs.Unbuilt.{register_under}
+use Rattle.svd_model.specs.Trees.{register_under}
 use Rattle.crate_form.specs.Elements.{FieldIsReady, entry_marker}
 use Rattle.crate_form.specs.Registers.{marked}
 use Rattle.crate_form.proofs.Elements.{fields-row, register-made}

@@ -3,7 +3,7 @@ use Rattle.std.specs.Map.{lookup}
 use Rattle.std.specs.Str.{bytes_eq}
 use Rattle.derive_build.specs.Children.{children_of, first_named}
 use Rattle.derive_build.proofs.Named.{first_more}
-use Rattle.svd_model.proofs.SoughtKeys.{drop_past}
+use Rattle.svd_model.proofs.Lists.{drop_past}
 use Rattle.derive_build.proofs.children.first_by_name.Goals as goal
 
 pub loop-past-init : goal.loop-past-init

@@ -2,7 +2,7 @@ use Rattle.std.proofs.Common.{◌+◌, ◌∙◌, map, drop, refl, sym, ap}
 use Rattle.indexmap.proofs.MapLemmas.{OnOk-map}
 use Rattle.derive_build.proofs.Listed.{grown, one_more, none_left}
 use Rattle.derive_build.specs.Nodes.{with_rest, cluster_under}
-use Rattle.svd_model.proofs.SoughtKeys.{from_place, drop_past}
+use Rattle.svd_model.proofs.Lists.{from_place, drop_past}
 use Rattle.svd_model.proofs.Trees.{child_tree-cluster, child_tree-register, item_under-is, cluster_tree-below}
 use Rattle.svd_model.specs.Trees.{item_under, child_tree, step_of}
 use Rattle.svd_rows.specs.Forest.{siblings}

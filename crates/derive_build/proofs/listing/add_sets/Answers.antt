@@ -1,6 +1,6 @@
 use Rattle.std.proofs.Common.{◌+◌, map, drop, ap}
 use Rattle.derive_build.proofs.Listed.{one_placed, none_placed}
-use Rattle.svd_model.proofs.SoughtKeys.{from_place, drop_past}
+use Rattle.svd_model.proofs.Lists.{from_place, drop_past}
 use Rattle.svd_model.specs.Steps.{set}
 use Rattle.svd_model.specs.Trees.{set_tree}
 use Rattle.derive_build.proofs.listing.add_sets.Goals as goal

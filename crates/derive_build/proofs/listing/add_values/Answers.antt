@@ -1,6 +1,6 @@
 use Rattle.std.proofs.Common.{◌+◌, map, drop, refl, ap}
 use Rattle.derive_build.proofs.Listed.{grown, lists_none, one_placed, none_placed}
-use Rattle.svd_model.proofs.SoughtKeys.{from_place, drop_past}
+use Rattle.svd_model.proofs.Lists.{from_place, drop_past}
 use Rattle.svd_model.specs.Steps.{value}
 use Rattle.svd_model.specs.Trees.{value_tree}
 use Rattle.derive_build.proofs.listing.add_values.Goals as goal

@@ -1,6 +1,6 @@
 use Rattle.std.proofs.Common.{◌+◌, ◌∙◌, map, drop, None, refl, sym, ap}
 use Rattle.derive_sources.proofs.Listed.{grown, lists_none, one_placed, none_placed, value-names}
-use Rattle.svd_model.proofs.SoughtKeys.{from_place, drop_past}
+use Rattle.svd_model.proofs.Lists.{from_place, drop_past}
 use Rattle.svd_model.specs.Steps.{value}
 use Rattle.svd_model.specs.Trees.{value_tree}
 use Rattle.derive_sources.proofs.listing.add_values.Goals as goal

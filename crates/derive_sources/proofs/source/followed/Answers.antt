@@ -4,7 +4,7 @@ use Rattle.derive_sources.specs.Entries.{plain}
 use Rattle.derive_sources.specs.Numbers.{path_at, first_owned}
 use Rattle.derive_sources.proofs.Seats.{step_on, owned_inside}
 use Rattle.derived_rows.specs.Sources.{followed}
-use Rattle.svd_model.proofs.SoughtKeys.{from_place, drop_past}
+use Rattle.svd_model.proofs.Lists.{from_place, drop_past}
 use Rattle.derive_sources.proofs.source.followed.Goals as goal
 
 pub returns-in-None-clause-found : goal.returns-in-None-clause-found

@@ -2,7 +2,7 @@
 use Rattle.std.proofs.Common.{◌+◌, drop, sym, ap, ◌∙◌}
 use Rattle.overlap_sweep.specs.Sought.{shared_in}
 use Rattle.overlap_sweep.proofs.Overlapping.{shared-some, shared-none, shared-end}
-use Rattle.svd_model.proofs.SoughtKeys.{from_place, drop_past}
+use Rattle.svd_model.proofs.Lists.{from_place, drop_past}
 use Rattle.overlap_sweep.proofs.overlap.field_overlap.Goals as goal
 
 pub returns-in-Some : goal.returns-in-Some

@@ -9,7 +9,7 @@ use Rattle.svd_model.specs.Keys.{Key}
 use Rattle.svd_model.specs.Steps.{Step}
 use Rattle.svd_model.specs.Trees.{item_under}
 use Rattle.svd_rows.specs.Forest.{Tree, siblings}
-use Rattle.svd_model.proofs.SoughtKeys.{from_place, drop_past}
+use Rattle.svd_model.proofs.Lists.{from_place, drop_past}
 use Rattle.overlap_sweep.proofs.walk.+walk.Goals as goal
 
 -- ---- the children

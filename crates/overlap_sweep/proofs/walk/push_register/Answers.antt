@@ -8,10 +8,9 @@ use Rattle.overlap_sweep.specs.Walk.{member_spots}
 use Rattle.overlap_sweep.proofs.Walks.{spots-register}
 use Rattle.svd_model.specs.Checking.{bytes_of, width_of}
 use Rattle.svd_model.specs.Properties.{holding, size_at}
-use Rattle.svd_model.specs.Trees.{register_tree}
+use Rattle.svd_model.specs.Trees.{register_tree, register_under}
 use Rattle.svd_rows.specs.Rows.{rows}
 use Rattle.overlap_sweep.specs.Fields.{shared_fields}
-use Rattle.svd_model.specs.Unbuilt.{register_under}
 use Rattle.reg_table.proofs.Walks.{fit-register}
 use Rattle.overlap_sweep.proofs.walk.push_register.Goals as goal
 

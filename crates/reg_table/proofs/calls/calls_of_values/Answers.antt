@@ -4,7 +4,7 @@ use Rattle.std.specs.List.{cons_option}
 use Rattle.reg_table.specs.Calls.{call_name, call_of, name_for, plain_value, calls_of, with_call}
 use Rattle.reg_table.specs.declared.row.Call.{Call}
 use Rattle.reg_table.proofs.Calling.{calls_left, one_more, all_left, none_left}
-use Rattle.svd_model.proofs.SoughtKeys.{from_place, drop_past}
+use Rattle.svd_model.proofs.Lists.{from_place, drop_past}
 use Rattle.reg_table.proofs.calls.calls_of_values.Goals as goal
 
 more : (made : List Call) (o : Option Call) (rest : List Call) → calls_left (with_call made o) rest ≡ calls_left made (cons_option o rest)

@@ -7,7 +7,7 @@ use Rattle.pac_io.specs.Writing.{AppendsPrefix}
 use Rattle.pac_io.proofs.WrittenUpTo.{page_went_on, page_broke_off, run_of_writes}
 use Rattle.reg_table.specs.Listing.{listing, row_lines}
 use Rattle.reg_table.specs.declared.row.Row.{Row as TableRow}
-use Rattle.svd_model.proofs.SoughtKeys.{from_place, drop_past}
+use Rattle.svd_model.proofs.Lists.{from_place, drop_past}
 use Rattle.reg_table.proofs.listing.list_text.Goals as goal
 
 pub returns-in_err-turn-clause-growth : goal.returns-in_err-turn-clause-growth

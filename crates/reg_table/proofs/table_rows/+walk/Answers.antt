@@ -6,7 +6,7 @@ use Rattle.svd_model.specs.Keys.{Key}
 use Rattle.svd_model.specs.Steps.{Step}
 use Rattle.svd_model.specs.Trees.{item_under}
 use Rattle.svd_rows.specs.Forest.{Tree, siblings}
-use Rattle.svd_model.proofs.SoughtKeys.{from_place, drop_past}
+use Rattle.svd_model.proofs.Lists.{from_place, drop_past}
 use Rattle.reg_table.proofs.Walks.{rows-nothing, rows-first, all-members, numbered-more, cluster-child, register-child, cluster-count, register-count}
 use Rattle.reg_table.proofs.table_rows.+walk.Goals as goal
 

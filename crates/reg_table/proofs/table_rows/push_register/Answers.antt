@@ -10,8 +10,7 @@ use Rattle.reg_table.specs.Registers.{register_row}
 use Rattle.reg_table.specs.Walk.{member_rows}
 use Rattle.svd_model.specs.Checking.{bytes_of, width_of}
 use Rattle.svd_model.specs.Properties.{holding, size_at, register_properties}
-use Rattle.svd_model.specs.Trees.{register_tree}
-use Rattle.svd_model.specs.Unbuilt.{register_under}
+use Rattle.svd_model.specs.Trees.{register_tree, register_under}
 use Rattle.svd_rows.specs.Rows.{rows}
 use Rattle.reg_table.proofs.Gathering.{register-listed}
 use Rattle.reg_table.proofs.Walks.{fit-register, rows-register}

@@ -1,9 +1,0 @@
--- The fields that are left decide as all do.
-use Rattle.std.proofs.Common.{◌≡◌, map}
-use Rattle.svd_model.specs.Trees.{field_under}
-use Rattle.svd_model.specs.Unbuilt.{first_way}
-use Rattle.svd_rows.specs.Forest.{siblings}
-use Rattle.svd_model.proofs.passages.way_to_fields.Given as goal
-
-abbrev pub invariant-loop-key : goal.invariant-loop-key
-invariant-loop-key l = first_way l.sought (siblings (map field_under l.key-iterator)) ≡ first_way l.sought (siblings (map field_under l.fields.entries))
