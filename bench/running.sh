@@ -9,12 +9,13 @@ needs python3 rustc
 mkdir "$folder/rust"
 cp "$top/support/generic.rs" "$folder/rust/generic.rs"
 
-printf '%8s %9s %9s %9s %12s\n' 'text MB' 'typed s' 'exec s' 'rustc s' 'exec/rustc'
-for megabytes in "${@:-1}"; do
+[ $# -gt 0 ] || set -- 1 10 60
+: >"$folder/none.script"
+printf '%8s %8s %8s %8s %8s %9s %12s\n' 'text MB' 'read s' 'type s' 'run s' 'exec s' 'rustc s' 'exec/rustc'
+for megabytes in "$@"; do
     "$top/bench/description" "$megabytes" "$folder/device.svd"
     "$program" generate "$folder/device.svd" >"$folder/rust/device.rs" || exit 1
     "$program" list "$folder/device.svd" >"$folder/list" || exit 1
-    : >"$folder/none.script"
     python3 - "$folder" <<'PYTHON'
 import re, sys
 folder = sys.argv[1]
@@ -36,13 +37,14 @@ with open(f"{folder}/rust/main.rs", "w") as out:
               + "".join(f"    part{n}(&device);\n" for n in range(len(groups)))
               + "    for access in recording::take() { println!(\"{access}\"); }\n}\n")
 PYTHON
-    read -r typed_time _ < <(best "$program" exec "$folder/rust/device.rs" "$folder/none.script" --bus memory)
-    read -r exec_time _ < <(best "$program" exec "$folder/rust/device.rs" "$folder/many.script" --bus memory)
+    "$top/bench/refused_texts" "$folder/rust/device.rs" "$folder" || exit 1
+    apart || exit 1
+    exec_time="$(least 0 '' "$program" exec "$folder/rust/device.rs" "$folder/many.script" --bus memory)" || exit 1
     cp "$folder/out" "$folder/events"
     /usr/bin/time -f %e -o "$folder/rustc_time" bash -c 'rustc --edition 2021 -O -A warnings --cfg "feature=\"recording\"" -o "$0/run" "$0/rust/main.rs" && "$0/run" >"$0/rust_events"' "$folder" ||
         { echo "rustc failed" >&2; exit 1; }
     # The two lines differ where a first read gives the reset word: exec presets it, and the recording bus here doesn't.
     [ "$(grep -c write "$folder/events")" -eq "$(grep -c write "$folder/rust_events")" ] || { echo "the accesses differ" >&2; exit 1; }
-    awk -v b="$(stat -c %s "$folder/rust/device.rs")" -v t="$typed_time" -v e="$exec_time" -v r="$(cat "$folder/rustc_time")" \
-        'BEGIN { printf "%8.1f %9.2f %9.2f %9.2f %12.4f\n", b / 1e6, t, e, r, e / r }'
+    awk -v b="$(stat -c %s "$folder/rust/device.rs")" -v d="$read_time" -v t="$typed_time" -v e="$exec_time" -v r="$(cat "$folder/rustc_time")" \
+        'BEGIN { printf "%8.1f %8.2f %8.2f %8.2f %8.2f %9.2f %12.4f\n", b / 1e6, d, t - d, e - t, e, r, e / r }'
 done

@@ -18,3 +18,23 @@ best() {
         cat "$folder/time"
     done | sort -n | awk 'NR == 1 { best = $1 } { if ($2 > most) most = $2 } END { print best, most }'
 }
+
+# least STATUS FAULT COMMAND..: the least seconds of three runs that end with that status and a fault that begins so
+least() {
+    local status=$1 fault=$2
+    shift 2
+    for _ in 1 2 3; do
+        /usr/bin/time -q -f %e -o "$folder/time" "$@" >"$folder/out" 2>"$folder/err"
+        [ $? -eq "$status" ] && [[ "$(cat "$folder/err")" == "$fault"* ]] || { echo "failed: $*: $(cat "$folder/err")" >&2; exit 1; }
+        cat "$folder/time"
+    done | sort -n | head -n 1
+}
+
+# apart: the seconds of reading $folder/crate.rs, and of reading and typing it, by the texts of refused_texts in that folder
+apart() {
+    local broken deep
+    broken="$(least 9 'pac: crate text: syntax' "$program" exec "$folder/broken.rs" "$folder/none.script")" || return
+    deep="$(least 9 'pac: crate text: nesting' "$program" exec "$folder/deep.rs" "$folder/none.script")" || return
+    typed_time="$(least 9 'pac: crate text: block too large' "$program" exec "$folder/past.rs" "$folder/none.script")" || return
+    read_time="$(awk -v b="$broken" -v d="$deep" 'BEGIN { print b - d }')"
+}

@@ -87,6 +87,15 @@ fails 3 "cannot read $folder$" 'a folder'
 status=$?
 fails 4 'cannot write$' 'an output that is full'
 
+# The index behind the last member of an array of fields, and the sixteenth of sixteen.
+for member in 16 15; do
+    echo "GPIOA.moder().modify(|_, w| w.mode($member).output());" >"$folder/$member.script"
+    "$program" exec "$top/examples/gallery/gpio.rs" "$folder/$member.script" >"$folder/out" 2>"$folder/err"
+    status=$?
+    [ "$member" -eq 15 ] || fails 10 'script line 1: index out of range$' 'an index behind the last'
+done
+[ "$status" -eq 0 ] || fail "the last of an array: status $status"
+
 # No words are refused with the usage, through a link and from another folder too.
 ln -s "$top/pac" "$folder/pac"
 (cd "$folder" && ./pac) >"$folder/out" 2>"$folder/err"

@@ -2,7 +2,6 @@ pub mod Words
 pub mod Leaving
 pub mod Coursing
 pub mod Stepping
-mod Entries
 mod Lines
 mod Cutting
 mod OnTypes

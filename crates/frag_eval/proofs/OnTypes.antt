@@ -1,59 +1,21 @@
 -- Calls of values that stand on a type, and what readers and writers make of words.
-use Rattle.std.proofs.Common.{ℕ, ◌≡◌, ◌^◌, ◌<◌, ◌++◌, ◌∷◌, [], min, Bool, true, false, cond, List, find, Option, Some, None, bytes_eq, refl, sym, ap, ◌∙◌, arith}
+use Rattle.std.proofs.Common.{ℕ, ◌≡◌, ◌^◌, ◌<◌, ◌++◌, min, List, Option, Some, None, refl, sym, ap, ◌∙◌, arith}
 use Rattle.pac_base.specs.declared.width.Width.{Width}
 use Rattle.pac_base.specs.Widths.{bits_of}
 use Rattle.frag_tree.specs.declared.register.BitKind.{BitKind}
-use Rattle.frag_tree.specs.declared.register.NumberCall.{NumberCall}
 use Rattle.frag_tree.specs.declared.register.ReadForm.TheVariants as read
 use Rattle.frag_tree.specs.declared.register.Reader.{Reader}
 use Rattle.frag_tree.specs.declared.register.RegisterModule.{RegisterModule}
 use Rattle.frag_tree.specs.declared.register.Spot.{Spot}
-use Rattle.frag_tree.specs.declared.register.TruthCall.{TruthCall}
 use Rattle.frag_tree.specs.declared.register.Values.{Values}
 use Rattle.frag_tree.specs.declared.register.WriteForm.TheVariants as write
 use Rattle.frag_tree.specs.declared.register.Writer.{Writer}
 use Rattle.frag_sem.specs.PreludeCalls.{bit_writes}
 use Rattle.frag_sem.specs.PreludeWords.{as_bits, is_set, taken, written}
-use Rattle.frag_sem.specs.ProxyTypes.{ProxyType, number_calls, numbers_on, reader_type, same_type, truth_calls, truths_on, values_type, writer_type}
+use Rattle.frag_sem.specs.ProxyTypes.{numbers_on, reader_type, truths_on, writer_type}
 use Rattle.frag_sem.specs.Spots.{spot_at}
-use Rattle.frag_sem.specs.TextMeaning.{bit_given, bit_put, bits_given, bits_put, field_written, form_given, form_written, writer_named}
+use Rattle.frag_sem.specs.TextMeaning.{bit_given, bit_put, bits_given, bits_put, field_given, field_written, form_given, form_written, reader_given, reader_named, writer_named}
 use Rattle.frag_eval.proofs.Cutting.{bits_cut, taken_cut, written_cut}
-
-find_here : {X : Type 0} (test : X → Bool) (front others : List X) (x : X) → Some x ≡ find test front → Some x ≡ find test (front ++ others)
-find_here test [] others x is = absurd (let e : Some x ≡ None = is in cc)
-find_here {X} test (y ∷ front) others x is = by (test y) is (find_here test front others x)
-  where
-    by : (b : Bool) → Some x ≡ cond b (Some y) (find test front) → (Some x ≡ find test front → Some x ≡ find test (front ++ others)) → Some x ≡ cond b (Some y) (find test (front ++ others))
-    by true h more = h
-    by false h more = more h
-
-find_past : {X : Type 0} (test : X → Bool) (front others : List X) → None ≡ find test front → find test others ≡ find test (front ++ others)
-find_past test [] others is = refl
-find_past {X} test (y ∷ front) others is = by (test y) is (find_past test front others)
-  where
-    by : (b : Bool) → None ≡ cond b (Some y) (find test front) → (None ≡ find test front → find test others ≡ find test (front ++ others)) → find test others ≡ cond b (Some y) (find test (front ++ others))
-    by true h more = absurd (let e : None ≡ Some y = h in cc)
-    by false h more = more h
-
-pub truth-found : (type : ProxyType) (name : List ℕ) (rest others : List Values) (block : Values) (calls : List TruthCall) (call : TruthCall)
-    → rest ≡ block ∷ others → same_type type (values_type block) ≡ true → calls ≡ truth_calls block → Some call ≡ find (λ call. bytes_eq name call.name) calls → Some call ≡ find (λ call. bytes_eq name call.name) (truths_on type rest)
-truth-found type name rest others block calls call is on are found =
-    rw is (rw on (find_here (λ call. bytes_eq name call.name) (truth_calls block) (truths_on type others) call (found ∙ ap (find (λ call. bytes_eq name call.name)) are)))
-
-pub truth-passed : (type : ProxyType) (name : List ℕ) (rest others : List Values) (block : Values) (calls : List TruthCall)
-    → rest ≡ block ∷ others → same_type type (values_type block) ≡ true → calls ≡ truth_calls block → None ≡ find (λ call. bytes_eq name call.name) calls → find (λ call. bytes_eq name call.name) (truths_on type others) ≡ find (λ call. bytes_eq name call.name) (truths_on type rest)
-truth-passed type name rest others block calls is on are none =
-    rw is (rw on (find_past (λ call. bytes_eq name call.name) (truth_calls block) (truths_on type others) (none ∙ ap (find (λ call. bytes_eq name call.name)) are)))
-
-pub number-found : (type : ProxyType) (name : List ℕ) (rest others : List Values) (block : Values) (calls : List NumberCall) (call : NumberCall)
-    → rest ≡ block ∷ others → same_type type (values_type block) ≡ true → calls ≡ number_calls block → Some call ≡ find (λ call. bytes_eq name call.name) calls → Some call ≡ find (λ call. bytes_eq name call.name) (numbers_on type rest)
-number-found type name rest others block calls call is on are found =
-    rw is (rw on (find_here (λ call. bytes_eq name call.name) (number_calls block) (numbers_on type others) call (found ∙ ap (find (λ call. bytes_eq name call.name)) are)))
-
-pub number-passed : (type : ProxyType) (name : List ℕ) (rest others : List Values) (block : Values) (calls : List NumberCall)
-    → rest ≡ block ∷ others → same_type type (values_type block) ≡ true → calls ≡ number_calls block → None ≡ find (λ call. bytes_eq name call.name) calls → find (λ call. bytes_eq name call.name) (numbers_on type others) ≡ find (λ call. bytes_eq name call.name) (numbers_on type rest)
-number-passed type name rest others block calls is on are none =
-    rw is (rw on (find_past (λ call. bytes_eq name call.name) (number_calls block) (numbers_on type others) (none ∙ ap (find (λ call. bytes_eq name call.name)) are)))
 
 -- ---- readers
 
@@ -72,6 +34,10 @@ field-form unit reader index method word offset mask width spot values is are of
     ap (λ (vs : List Values). bits_given (numbers_on (reader_type reader) vs) method (as_bits (bits_of width) (taken word offset mask))) are
     ∙ (ap (λ (t : ℕ). bits_given (numbers_on (reader_type reader) unit.values) method (as_bits (bits_of width) t)) (ap (λ (o : ℕ). taken word o mask) off ∙ taken_cut word (spot_at spot index) mask small)
     ∙ sym (ap (form_given unit reader index method word) is))
+
+pub given-by : (unit : RegisterModule) (name : List ℕ) (index : Option ℕ) (method : List ℕ) (word : ℕ) (reader : Reader) → Some reader ≡ reader_named name unit → form_given unit reader index method word reader.form ≡ field_given unit name index method word
+unfolding field_given
+given-by unit name index method word reader is = ap (reader_given unit index method word) is
 
 -- ---- writers
 

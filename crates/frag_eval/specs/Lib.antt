@@ -5,8 +5,6 @@ pub mod Courses
 pub mod Stages
 pub mod Answers
 pub mod Preparing
-pub mod Held
-pub mod Fields
 pub mod Lowering
 pub mod Lowered
 pub mod Called

@@ -11,70 +11,70 @@ use crate::put::chain_puts;
 use crate::role::Role;
 use crate::term::operand;
 use crate::word::start_word;
-use frag_index::Found;
-use frag_tree::{Identifier, Link, RegisterModule, ScriptLine, Statement, Value};
+use frag_index::{Found, Unit};
+use frag_tree::{Identifier, Link, ScriptLine, Statement, Value};
 use pac_base::NoMemory;
 use std::alloc::Global;
 
 /// A script in plain numbers, as far as it was put into them.
 #[derive(Drop)]
-pub(crate) struct Lowering<'a> {
+pub(crate) struct Lowering<'s, 'i, 'a> {
     pub deeds: Vec<Deed>,
     /// The names that are bound.
-    pub bound: Bound<'a>,
+    pub bound: Bound<'s, 'i, 'a>,
     /// How many words are read.
     pub reads: usize,
 }
 
 /// Where an access goes.
-fn target(found: Found<'_>, role: Role, line: u32) -> Target
+fn target(found: Found<'_, '_>, role: Role, line: u32) -> Target
     ensures { result ≡ target_of (found_seen found.entry) role line }
 {
     Target {
         address: found.address,
-        width: found.register.word,
+        width: found.register.word(),
         role,
         line,
     }
 }
 
-fn one_to_modify(unit: &RegisterModule) -> u64
+fn one_to_modify(unit: &Unit<'_>) -> u64
     ensures { result ≡ one_to_modify unit.now }
 {
-    match &unit.writable {
+    match &unit.register().writable {
         Some(masks) => masks.one_to_modify.value,
         None => 0,
     }
 }
 
-fn zero_to_modify(unit: &RegisterModule) -> u64
+fn zero_to_modify(unit: &Unit<'_>) -> u64
     ensures { result ≡ zero_to_modify unit.now }
 {
-    match &unit.writable {
+    match &unit.register().writable {
         Some(masks) => masks.zero_to_modify.value,
         None => 0,
     }
 }
 
 /// The word from which a `write` starts.
-fn started(unit: &RegisterModule) -> u64
+fn started(unit: &Unit<'_>) -> u64
     ensures { result ≡ started unit.now unit.now.reset.value }
 {
     start_word(
-        unit.word,
-        unit.reset.value,
+        unit.word(),
+        unit.reset(),
         one_to_modify(unit),
         zero_to_modify(unit),
     )
 }
 
 /// Puts a read behind the deeds.
-fn push_read<'a>(
-    lowering: &mut Lowering<'a>,
-    found: Found<'a>,
+fn push_read<'i, 'a>(
+    lowering: &mut Lowering<'_, 'i, 'a>,
+    found: Found<'i, 'a>,
     role: Role,
     line: u32,
-) -> Result<Reading<'a>, NoMemory>
+) -> Result<Reading<'i, 'a>, NoMemory>
     requires { IsFew lowering.old }
     ensures { IfOk result (λ reading. IsRead lowering.old lowering.new found.entry role line reading) }
 {
@@ -89,10 +89,10 @@ fn push_read<'a>(
     })
 }
 
-fn lower_let<'a>(
-    lowering: &mut Lowering<'a>,
-    found: Found<'a>,
-    name: &'a Identifier,
+fn lower_let<'s, 'i, 'a>(
+    lowering: &mut Lowering<'s, 'i, 'a>,
+    found: Found<'i, 'a>,
+    name: &'s Identifier,
     line: u32,
 ) -> Result<(), NoMemory>
     requires { IsFew lowering.old }
@@ -102,10 +102,10 @@ fn lower_let<'a>(
     lowering.bound.set(name.bytes(), reading)
 }
 
-fn lower_write<'a>(
+fn lower_write<'i, 'a>(
     alloc: Global,
-    lowering: &mut Lowering<'a>,
-    found: Found<'a>,
+    lowering: &mut Lowering<'_, 'i, 'a>,
+    found: Found<'i, 'a>,
     base: u64,
     chain: &[Link],
     line: u32,
@@ -130,10 +130,10 @@ fn lower_write<'a>(
     Ok(())
 }
 
-fn lower_reset<'a>(
+fn lower_reset<'i, 'a>(
     alloc: Global,
-    lowering: &mut Lowering<'a>,
-    found: Found<'a>,
+    lowering: &mut Lowering<'_, 'i, 'a>,
+    found: Found<'i, 'a>,
     line: u32,
 ) -> Result<(), NoMemory>
     requires { IsFew lowering.old }
@@ -141,23 +141,23 @@ fn lower_reset<'a>(
 {
     lowering.deeds.push(Deed::Write {
         at: target(found, Role::Write, line),
-        start: Start::Word(found.register.reset.value),
+        start: Start::Word(found.register.reset()),
         puts: Vec::new(alloc),
     })?;
     Ok(())
 }
 
 /// What `r` is bound to within the chain of a `modify`.
-fn reader_of<'a>(names_reader: bool, reading: Reading<'a>) -> Option<Reading<'a>>
+fn reader_of<'i, 'a>(names_reader: bool, reading: Reading<'i, 'a>) -> Option<Reading<'i, 'a>>
     ensures { result ≡ (if names_reader then Some reading.entry else None) }
 {
     if names_reader { Some(reading) } else { None }
 }
 
-fn lower_modify<'a>(
+fn lower_modify<'i, 'a>(
     alloc: Global,
-    lowering: &mut Lowering<'a>,
-    found: Found<'a>,
+    lowering: &mut Lowering<'_, 'i, 'a>,
+    found: Found<'i, 'a>,
     names_reader: bool,
     chain: &[Link],
     line: u32,
@@ -188,7 +188,7 @@ fn lower_modify<'a>(
     Ok(())
 }
 
-fn lower_say(lowering: &mut Lowering<'_>, value: &Value) -> Result<(), NoMemory>
+fn lower_say(lowering: &mut Lowering<'_, '_, '_>, value: &Value) -> Result<(), NoMemory>
     requires { IsFew lowering.old }
     ensures { IfOk result (λ _. Grows lowering.old lowering.new (λ answers names. say_outcome value.now (standing_of answers names)) []) }
 {
@@ -204,11 +204,11 @@ fn lower_say(lowering: &mut Lowering<'_>, value: &Value) -> Result<(), NoMemory>
 }
 
 /// A statement that calls the register that was found.
-fn lower_at<'a>(
+fn lower_at<'s, 'i, 'a>(
     alloc: Global,
-    lowering: &mut Lowering<'a>,
-    found: Found<'a>,
-    line: &'a ScriptLine,
+    lowering: &mut Lowering<'s, 'i, 'a>,
+    found: Found<'i, 'a>,
+    line: &'s ScriptLine,
 ) -> Result<(), NoMemory>
     requires { IsFew lowering.old }
     ensures { IfOk result (λ _. TakesLine lowering.old lowering.new line.now (Some (found_seen found.entry))) }
@@ -240,7 +240,7 @@ fn lower_at<'a>(
 }
 
 /// A statement that calls no register that is there.
-fn lower_nowhere<'a>(lowering: &mut Lowering<'a>, line: &'a ScriptLine) -> Result<(), NoMemory>
+fn lower_nowhere(lowering: &mut Lowering<'_, '_, '_>, line: &ScriptLine) -> Result<(), NoMemory>
     requires { IsFew lowering.old }
     ensures { IfOk result (λ _. TakesLine lowering.old lowering.new line.now None) }
 {
@@ -255,11 +255,11 @@ fn lower_nowhere<'a>(lowering: &mut Lowering<'a>, line: &'a ScriptLine) -> Resul
 }
 
 /// Puts the deeds of a line behind those of the lines before it, given the register that it calls.
-pub(crate) fn lower_line<'a>(
+pub(crate) fn lower_line<'s, 'i, 'a>(
     alloc: Global,
-    lowering: &mut Lowering<'a>,
-    found: Option<Found<'a>>,
-    line: &'a ScriptLine,
+    lowering: &mut Lowering<'s, 'i, 'a>,
+    found: Option<Found<'i, 'a>>,
+    line: &'s ScriptLine,
 ) -> Result<(), NoMemory>
     requires { IsFew lowering.old }
     ensures { IfOk result (λ _. TakesLine lowering.old lowering.new line.now (option_map found_seen found.entry)) }

@@ -25,15 +25,15 @@ pub(crate) struct Called<'a> {
 }
 
 /// Puts the preset of a register behind others, where there is a register.
-fn add_preset(found: Option<Found<'_>>, presets: &mut Vec<Preset>) -> Result<(), NoMemory>
+fn add_preset(found: Option<Found<'_, '_>>, presets: &mut Vec<Preset>) -> Result<(), NoMemory>
     ensures { IfOk result (λ _. map preset_seen presets.new.items ≡ map preset_seen presets.old.items ++ preset_at (option_map found_seen found.entry)) }
 {
     match found {
         Some(found) => {
             presets.push(Preset {
                 address: found.address,
-                width: found.register.word,
-                value: found.register.reset.value,
+                width: found.register.word(),
+                value: found.register.reset(),
             })?;
             Ok(())
         }

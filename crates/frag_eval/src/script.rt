@@ -30,7 +30,7 @@ pub(crate) fn called(statement: &Statement) -> Option<&Place>
 }
 
 /// The register that a statement calls.
-fn called_at<'a>(index: &Index<'a>, statement: &Statement) -> Option<Found<'a>>
+fn called_at<'i, 'a>(index: &'i Index<'a>, statement: &Statement) -> Option<Found<'i, 'a>>
     requires index { IsIndex index.now }
     requires range { (place : PlaceRow) → StartsBelow (register_at (crate_tree index.now.krate.now) place) }
     ensures { IsCalled (crate_tree index.now.krate.now) statement.now (option_map found_seen result) }

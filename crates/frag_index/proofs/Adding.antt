@@ -1,5 +1,5 @@
 -- Sites as they are added, one after the other.
-use Rattle.std.proofs.Common.{◌≡◌, ℕ, ◌+◌, ◌<◌, zero, suc, Bool, true, false, List, [], ◌∷◌, ◌++◌, map, length, drop, Option, Some, None, IfSome, option_map, refl, sym, ap, subst, ◌∙◌, append_assoc, append-nil, if◌then◌else◌}
+use Rattle.std.proofs.Common.{◌≡◌, ℕ, zero, suc, Bool, true, false, List, [], ◌∷◌, ◌++◌, map, length, Option, Some, None, option_map, refl, sym, ap, subst, ◌∙◌, append_assoc, append-nil, if◌then◌else◌}
 use Rattle.std.specs.Prelude.{slice_get}
 use Rattle.std.specs.Borrow.{Bor}
 use Rattle.std.specs.List.{AllByRecursion}
@@ -116,14 +116,14 @@ block-added old mid now unit modules within site number measure adds is measure_
   measure_is = measure_is;
 }
 
-pub register-added : (sites : List Site) (unit : Bor RegisterModule) (tree : ModuleTree) (measure : Measure) → tree ≡ one_register unit.now → measure_seen measure ≡ measured (one_register unit.now)
-    → Adds sites sites tree (record { unit = inner.Register unit; measure = measure })
-register-added sites unit tree measure is measure_is = record {
+pub register-added : (sites : List Site) (own : RegisterModule) (unit : RegisterModule) (measure : Measure) → unit ≡ own → measure_seen measure ≡ measured (one_register own)
+    → Adds sites sites (one_register own) (record { unit = inner.Register unit; measure = measure })
+register-added sites own unit measure is measure_is = record {
   grown = not-grown sites;
   fit = λ fit. fit;
-  tree_is = sym is;
+  tree_is = ap one_register is;
   numbered = tt;
-  measure_is = measure_is ∙ ap measured (sym is);
+  measure_is = measure_is;
 }
 
 -- ---- the modules of a parent

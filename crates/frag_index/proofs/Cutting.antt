@@ -1,5 +1,5 @@
 -- Addresses from numbers of bytes that are cut.
-use Rattle.std.proofs.Common.{◌≡◌, ℕ, ◌+◌, ◌*◌, ◌-◌, ◌^◌, ◌≤◌, ◌<◌, min, sym, ap, ◌∙◌, arith}
+use Rattle.std.proofs.Common.{◌≡◌, ℕ, ◌+◌, ◌*◌, ◌-◌, ◌^◌, min, sym, ap, ◌∙◌, arith}
 use Rattle.frag_sem.specs.AddressEnds.{cut}
 use Rattle.frag_rules.proofs.Rooms.{cut-sum, cut-times, cut-twice}
 use Rattle.frag_index.specs.Walks.{small}

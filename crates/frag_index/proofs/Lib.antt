@@ -1,4 +1,5 @@
 mod Adding
+mod Calling
 mod Cutting
 mod Stepping
 mod Walking

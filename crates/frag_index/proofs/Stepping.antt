@@ -6,15 +6,12 @@ use Rattle.std.specs.Option.{option_copied}
 use Rattle.std.proofs.lemmas.Option.{none-some, same_Some}
 use Rattle.frag_rules.specs.Insides.{found_inside}
 use Rattle.frag_sem.specs.CallPlaces.{access_named, count_of}
-use Rattle.frag_sem.specs.Modules.{module_of}
 use Rattle.frag_sem.specs.PlaceTyping.{inner_named, inner_of}
-use Rattle.frag_sem.specs.PlaceTyping.{Inner as InnerTree}
 use Rattle.frag_tree.specs.declared.access.Access.{Access}
 use Rattle.frag_tree.specs.declared.block.Block.{Block}
-use Rattle.frag_tree.specs.Trees.{BlockTree, ModuleTree, block_tree, one_block, one_register}
+use Rattle.frag_tree.specs.Trees.{BlockTree, ModuleTree, block_tree, one_block}
 use Rattle.frag_index.specs.declared.site.Behind.{Behind}
 use Rattle.frag_index.specs.declared.site.Inner.{Inner}
-use Rattle.frag_index.specs.declared.site.Inner.TheVariants as inner
 use Rattle.frag_index.specs.declared.site.Site.{Site}
 use Rattle.frag_index.specs.Sites.{AllFit, AreNumbered, IsNumbered, LeadsBehind, SiteFits, StandsAt, inner_tree}
 use Rattle.frag_index.proofs.Adding.{all-at}
@@ -27,11 +24,11 @@ copied-now {T} found entry is = by found ∙ ap (option_map (λ (item : Bor T). 
     by None = refl
     by (Some x) = refl
 
-pub found-behind : (sites : List Site) (site : Site) → SiteFits sites site → (access : Access) (unit : Inner) (count : Option ℕ) → found_inside site.within.units access.element ≡ Some unit → count ≡ count_of (block_tree site.block.now) access
+pub found-behind : (sites : List Site) (site : Site) → SiteFits sites site → (access : Access) (unit : Bor Inner) (count : Option ℕ) → found_inside site.within.units access.element ≡ Some unit.now → count ≡ count_of (block_tree site.block.now) access
     → LeadsBehind sites (inner_of (block_tree site.block.now) access) (Some (record { count = count; unit = unit }))
 found-behind sites site fits access unit count found count_is = record {
   same =
-      ap (λ n. Some (record { count = n; tree = inner_tree unit })) count_is
+      ap (λ n. Some (record { count = n; tree = inner_tree unit.now })) count_is
       ∙ ap (option_map (λ tree. record { count = count_of (block_tree site.block.now) access; tree = tree })) (ap (option_map inner_tree) (sym found) ∙ fits.inside.units_are access.element);
   numbered = subst (λ (o : Option Inner). AreNumbered sites o) found (fits.inside.numbered access.element);
 }
@@ -47,6 +44,21 @@ named-behind sites unit name access found is leads = subst (λ (o : Option Acces
 
 pub none-named : (sites : List Site) (unit : BlockTree) (name : List ℕ) → access_named name unit.head.accessors ≡ None → LeadsBehind sites (inner_named (one_block unit) name) None
 none-named sites unit name none = record { same = ap (option_and_then (inner_of unit)) (sym none); numbered = tt }
+
+-- a module that is lent
+pub lent-tree : (found : Option (Bor Inner)) (unit : Option Inner) → option_copied found ≡ unit → option_map (λ (unit : Bor Inner). inner_tree unit.now) found ≡ option_map inner_tree unit
+lent-tree found unit is = by found ∙ ap (option_map inner_tree) is
+  where
+    by : (o : Option (Bor Inner)) → option_map (λ (unit : Bor Inner). inner_tree unit.now) o ≡ option_map inner_tree (option_copied o)
+    by None = refl
+    by (Some x) = refl
+
+pub lent-numbered : (sites : List Site) (found : Option (Bor Inner)) (unit : Option Inner) → option_copied found ≡ unit → AreNumbered sites unit → IfSome found (λ unit. IsNumbered sites unit.now)
+lent-numbered sites found unit is has = by found (subst (λ (o : Option Inner). AreNumbered sites o) (sym is) has)
+  where
+    by : (o : Option (Bor Inner)) → AreNumbered sites (option_copied o) → IfSome o (λ unit. IsNumbered sites unit.now)
+    by None has = tt
+    by (Some x) has = has
 
 -- a register has no accessors
 pub none-on-register : (sites : List Site) (unit : Inner) (lent : Inner) (name : List ℕ) (tree : ModuleTree) → inner_named tree name ≡ None → inner_tree unit ≡ tree → LeadsBehind sites (inner_named (inner_tree unit) name) None

@@ -1,5 +1,5 @@
 -- The walk along accessors.
-use Rattle.std.proofs.Common.{ℕ, ◌≡◌, ◌+◌, ◌-◌, ◌^◌, ◌<◌, ◌≤◌, ◌⊎◌, inl, inr, min, Bool, true, false, List, [], ◌∷◌, map, Option, Some, None, Ok, Err, Result, IfSome, IfOk, option_map, option_and_then, refl, sym, ap, subst, ◌∙◌, if◌then◌else◌, arith}
+use Rattle.std.proofs.Common.{ℕ, ◌≡◌, ◌+◌, ◌-◌, ◌^◌, ◌<◌, ◌≤◌, ◌⊎◌, inl, inr, min, Bool, true, false, List, [], ◌∷◌, Option, Some, None, IfSome, option_map, option_and_then, refl, sym, ap, subst, ◌∙◌, if◌then◌else◌, arith}
 use Rattle.std.specs.Prelude.{nat_lt}
 use Rattle.std.proofs.lemmas.Bool.{cases_lt}
 use Rattle.std.proofs.lemmas.Bool.Decides.{nat_tests}
@@ -66,10 +66,10 @@ through_is : (unit : BlockTree) (start : ℕ) (step : Call) (access : Access) (i
     → (steps : List Call) → through unit start step access (leads steps) ≡ leads steps inner (start + offset_of unit access step.index)
 through_is unit start step access inner admitted is steps = rw (admitted, is) refl
 
-pub passed : (sites : List Site) (unit : BlockTree) (start : ℕ) (step : Call) (access : Access) (at : Stand) → admits (count_of unit access) step.index ≡ true → module_of access.element unit.inside ≡ Some (inner_tree at.unit)
-    → Some at.start ≡ small (start + offset_of unit access step.index) → IsNumbered sites at.unit → GoesTo sites (λ steps. through unit start step access (leads steps)) at
+pub passed : (sites : List Site) (unit : BlockTree) (start : ℕ) (step : Call) (access : Access) (at : Stand) → admits (count_of unit access) step.index ≡ true → module_of access.element unit.inside ≡ Some (inner_tree at.unit.now)
+    → Some at.start ≡ small (start + offset_of unit access step.index) → IsNumbered sites at.unit.now → GoesTo sites (λ steps. through unit start step access (leads steps)) at
 passed sites unit start step access at admitted is moved has = record {
-  same = λ steps. sym (through_is unit start step access (inner_tree at.unit) admitted is steps ∙ ap (leads steps (inner_tree at.unit)) (from_small (start + offset_of unit access step.index) at.start moved));
+  same = λ steps. sym (through_is unit start step access (inner_tree at.unit.now) admitted is steps ∙ ap (leads steps (inner_tree at.unit.now)) (from_small (start + offset_of unit access step.index) at.start moved));
   numbered = has;
 }
 

@@ -14,7 +14,7 @@ use Rattle.frag_sem.specs.PlaceTyping.{Inner as InnerTree}
 use Rattle.frag_tree.specs.declared.block.Element.{Element}
 use Rattle.frag_tree.specs.declared.block.StructField.{StructField}
 use Rattle.frag_tree.specs.declared.block.Block.{Block}
-use Rattle.frag_tree.specs.Trees.{BlockTree, CrateTree, Modules, ModuleTree, block_tree, crate_tree, one_block, one_register}
+use Rattle.frag_tree.specs.Trees.{BlockTree, Modules, ModuleTree, block_tree, crate_tree, one_block, one_register}
 use Rattle.frag_index.specs.declared.built.Tops.{Tops}
 use Rattle.frag_index.specs.declared.index.Index.{Index}
 use Rattle.frag_index.specs.declared.site.Added.{Added}
@@ -26,12 +26,12 @@ use Rattle.frag_index.specs.declared.site.Within.{Within}
 
 -- a module that is lent, as its tree
 abbrev pub inner_tree : Inner → ModuleTree
-inner_tree (inner.Register unit) = one_register unit.now
+inner_tree (inner.Register unit) = one_register unit
 inner_tree (inner.Block unit number) = one_block (block_tree unit.now)
 
 -- a module behind an accessor, as typing has it
 abbrev pub behind_seen : Behind → InnerTree
-behind_seen behind = record { count = behind.count; tree = inner_tree behind.unit }
+behind_seen behind = record { count = behind.count; tree = inner_tree behind.unit.now }
 
 -- how many members a field has that is an array; none where there is no such field
 abbrev pub field_count : Option StructField → Option ℕ
@@ -123,4 +123,4 @@ pub record IsIndex (index : Index) : Type 0 where
 -- what is found behind an accessor, if anything
 pub record LeadsBehind (sites : List Site) (wanted : Option InnerTree) (found : Option Behind) : Type 0 where
   pub same : option_map behind_seen found ≡ wanted
-  pub numbered : IfSome found (λ behind. IsNumbered sites behind.unit)
+  pub numbered : IfSome found (λ behind. IsNumbered sites behind.unit.now)

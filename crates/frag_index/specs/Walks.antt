@@ -1,11 +1,8 @@
 -- How the walk along accessors goes, step by step.
-use Rattle.std.specs.Prelude.{ℕ, ◌≡◌, ◌≤◌, ◌<◌, ◌+◌, ◌^◌, nat_lt, max, List, [], ◌∷◌, ◌++◌, find, Option, Some, None, IfSome, option_map, unwrap_or, if◌then◌else◌}
-use Rattle.std.specs.Int.{next_multiple_of}
-use Rattle.std.specs.Str.{bytes_eq}
+use Rattle.std.specs.Prelude.{ℕ, ◌≡◌, ◌<◌, ◌^◌, nat_lt, List, ◌∷◌, Option, Some, None, IfSome, if◌then◌else◌}
 use Rattle.frag_tree.specs.declared.access.Access.{Access}
-use Rattle.frag_tree.specs.declared.block.StructField.{StructField}
 use Rattle.frag_tree.specs.declared.statement.Call.{Call}
-use Rattle.frag_tree.specs.Trees.{BlockTree, ModuleTree, one_block, one_register}
+use Rattle.frag_tree.specs.Trees.{BlockTree, ModuleTree}
 use Rattle.frag_sem.specs.CallPlaces.{RegisterAt, leads, through}
 use Rattle.frag_index.specs.declared.place.Found.{Found}
 use Rattle.frag_index.specs.declared.place.Stand.{Stand}
@@ -25,8 +22,8 @@ StartsBelow found = IfSome found (λ register. register.address < 2 ^ 64)
 
 -- A step was made: to a module from which the other steps lead as they did before it.
 pub record GoesTo (sites : List Site) (lead : List Call → Option RegisterAt) (at : Stand) : Type 0 where
-  pub same : (steps : List Call) → leads steps (inner_tree at.unit) at.start ≡ lead steps
-  pub numbered : IsNumbered sites at.unit
+  pub same : (steps : List Call) → leads steps (inner_tree at.unit.now) at.start ≡ lead steps
+  pub numbered : IsNumbered sites at.unit.now
 
 -- A step was made, or the others lead to no register that starts below 2^64.
 abbrev pub GoesOn : List Site → Option Stand → (List Call → Option RegisterAt) → Type 0

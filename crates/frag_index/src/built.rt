@@ -1,11 +1,12 @@
 ghost use Rattle.std.specs.Prelude.{◌≡◌, IfOk, List, map};
-ghost use Rattle.frag_tree.specs.Trees.{block_tree, in_line, module_tree, one_block};
+ghost use Rattle.frag_tree.specs.Trees.{block_tree, in_line, module_tree, one_block, one_register};
 ghost use Rattle.frag_index.specs.declared.site.Site.{Site as SiteRow};
 ghost use Rattle.frag_index.specs.Sites.{Adds, AddsAll, AddsTop, IsSiteOf, TopsFit, WithinFits};
 
 use crate::site::{Added, Inner, Site, Within};
+use crate::unit::Unit;
 use frag_rules::{Named, by_name, layout_of, measure_laid, measure_register};
-use frag_tree::{Access, Block, Module, StructField};
+use frag_tree::{Access, Block, Module, RegisterModule, StructField};
 use pac_base::NoMemory;
 use std::alloc::Global;
 
@@ -36,6 +37,17 @@ fn site_of<'a>(alloc: Global, block: &'a Block, within: Within<'a>) -> Result<Si
         fields,
         within,
         layout,
+    })
+}
+
+/// The module of a register, with what it takes. It has no site.
+fn register_added<'a>(alloc: Global, register: &'a RegisterModule) -> Result<Added<'a>, NoMemory>
+    ensures { IfOk result (λ added. (sites : List SiteRow) → Adds sites sites (one_register register.now) added) }
+{
+    let unit = Unit::new(alloc, register)?;
+    Ok(Added {
+        unit: Inner::Register(unit),
+        measure: measure_register(register),
     })
 }
 
@@ -86,10 +98,7 @@ fn add_module<'a>(
 {
     match unit {
         Module::Block(block) => add_block(block, alloc, sites),
-        Module::Register(register) => Ok(Added {
-            unit: Inner::Register(register),
-            measure: measure_register(register),
-        }),
+        Module::Register(register) => register_added(alloc, register),
     }
 }
 

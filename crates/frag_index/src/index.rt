@@ -3,7 +3,7 @@ ghost use Rattle.frag_sem.specs.CallPlaces.{slot_named};
 ghost use Rattle.frag_sem.specs.Modules.{top_block};
 ghost use Rattle.frag_sem.specs.PlaceTyping.{inner_named};
 ghost use Rattle.frag_tree.specs.Trees.{crate_tree, one_block};
-ghost use Rattle.frag_index.specs.Sites.{AreNumbered, IsIndex, IsNumbered, LeadsBehind, behind_seen, inner_tree};
+ghost use Rattle.frag_index.specs.Sites.{IsIndex, IsNumbered, LeadsBehind, behind_seen, inner_tree};
 
 use crate::built::{Tops, add_tops};
 use crate::site::{Behind, Inner, Site};
@@ -40,32 +40,32 @@ impl<'a> Index<'a> {
     }
 
     /// The block module at the top that has the name.
-    pub fn top(&self, name: &[u8]) -> Option<Inner<'a>>
+    pub fn top<'i>(&'i self, name: &[u8]) -> Option<&'i Inner<'a>>
         requires { IsIndex self.now }
-        ensures same { option_map inner_tree result ≡ option_map one_block (top_block name.now (crate_tree self.now.krate.now).blocks) }
-        ensures numbered { AreNumbered self.now.tops.sites.items result }
+        ensures same { option_map (λ unit. inner_tree unit.now) result ≡ option_map one_block (top_block name.now (crate_tree self.now.krate.now).blocks) }
+        ensures numbered { IfSome result (λ unit. IsNumbered self.now.tops.sites.items unit.now) }
     {
-        self.tops.named.get(name).copied()
+        self.tops.named.get(name)
     }
 
     /// The module behind the accessor of a name.
-    pub fn behind(&self, unit: Inner<'a>, name: &[u8]) -> Option<Behind<'a>>
+    pub fn behind<'i>(&'i self, unit: &Inner<'a>, name: &[u8]) -> Option<Behind<'i, 'a>>
         requires index { IsIndex self.now }
-        requires numbered { IsNumbered self.now.tops.sites.items unit }
-        ensures same { option_map behind_seen result ≡ inner_named (inner_tree unit.entry) name.now }
-        ensures numbered { IfSome result (λ behind. IsNumbered self.now.tops.sites.items behind.unit) }
+        requires numbered { IsNumbered self.now.tops.sites.items unit.now }
+        ensures same { option_map behind_seen result ≡ inner_named (inner_tree unit.now) name.now }
+        ensures numbered { IfSome result (λ behind. IsNumbered self.now.tops.sites.items behind.unit.now) }
     {
         self.found_behind(unit, name)
     }
 
-    fn found_behind(&self, unit: Inner<'a>, name: &[u8]) -> Option<Behind<'a>>
+    fn found_behind<'i>(&'i self, unit: &Inner<'a>, name: &[u8]) -> Option<Behind<'i, 'a>>
         requires index { IsIndex self.now }
-        requires numbered { IsNumbered self.now.tops.sites.items unit }
-        ensures { LeadsBehind self.now.tops.sites.items (inner_named (inner_tree unit.entry) name.now) result }
+        requires numbered { IsNumbered self.now.tops.sites.items unit.now }
+        ensures { LeadsBehind self.now.tops.sites.items (inner_named (inner_tree unit.now) name.now) result }
     {
         match unit {
             Inner::Register(_) => None,
-            Inner::Block(_, number) => match self.site_at(number) {
+            Inner::Block(_, number) => match self.site_at(*number) {
                 Some(site) => site.behind(name),
                 None => None,
             },

@@ -9,23 +9,24 @@ ghost use Rattle.frag_index.specs.Walks.{Goes, Passes, StartsBelow, found_seen, 
 
 use crate::index::Index;
 use crate::site::{Inner, Site};
+use crate::unit::Unit;
 use frag_rules::element_room;
-use frag_tree::{Access, Body, Call, Place, RegisterModule};
+use frag_tree::{Access, Body, Call, Place};
 
 /// A register at its address.
 #[derive(Clone, Copy)]
-pub struct Found<'a> {
+pub struct Found<'i, 'a> {
     /// The address of its first byte.
     pub address: u64,
     /// Its module.
-    pub register: &'a RegisterModule,
+    pub register: &'i Unit<'a>,
 }
 
 /// A module that starts at an address.
 #[derive(Clone, Copy)]
-pub(crate) struct Stand<'a> {
+pub(crate) struct Stand<'i, 'a> {
     pub start: u64,
-    pub unit: Inner<'a>,
+    pub unit: &'i Inner<'a>,
 }
 
 /// Whether an index stands just where there is a count, and is below it.
@@ -82,19 +83,24 @@ fn moved(start: u64, offset: u128) -> Option<u64>
 }
 
 /// Through an accessor of a block.
-fn through<'a>(site: &Site<'a>, step: &Call, access: &Access, start: u64) -> Option<Stand<'a>>
+fn through<'i, 'a>(
+    site: &'i Site<'a>,
+    step: &Call,
+    access: &Access,
+    start: u64,
+) -> Option<Stand<'i, 'a>>
     ensures { (sites : List SiteRow) → SiteFits sites site.now → Passes sites result (block_tree site.now.block.now) start step.now access.now }
 {
     if !admits(site.count_of(access), step.index) {
         return None;
     }
-    let unit = site.within.units.get(&access.element).copied()?;
+    let unit = site.within.units.get(&access.element)?;
     let start = moved(start, offset_of(site, access, step.index))?;
     Some(Stand { start, unit })
 }
 
 /// Through the accessor of a block that a step names.
-fn into_block<'a>(site: &Site<'a>, step: &Call, start: u64) -> Option<Stand<'a>>
+fn into_block<'i, 'a>(site: &'i Site<'a>, step: &Call, start: u64) -> Option<Stand<'i, 'a>>
     ensures { (sites : List SiteRow) → SiteFits sites site.now → Goes sites result (one_block (block_tree site.now.block.now)) start step.now }
 {
     match site.accessors.get(step.name.bytes()) {
@@ -104,14 +110,14 @@ fn into_block<'a>(site: &Site<'a>, step: &Call, start: u64) -> Option<Stand<'a>>
 }
 
 /// Through the accessor that a step names.
-fn into<'a>(index: &Index<'a>, at: Stand<'a>, step: &Call) -> Option<Stand<'a>>
+fn into<'i, 'a>(index: &'i Index<'a>, at: Stand<'i, 'a>, step: &Call) -> Option<Stand<'i, 'a>>
     requires index { IsIndex index.now }
-    requires numbered { IsNumbered index.now.tops.sites.items at.unit }
-    ensures { Goes index.now.tops.sites.items result (inner_tree at.entry.unit) at.entry.start step.now }
+    requires numbered { IsNumbered index.now.tops.sites.items at.unit.now }
+    ensures { Goes index.now.tops.sites.items result (inner_tree at.entry.unit.now) at.entry.start step.now }
 {
     match at.unit {
         Inner::Register(_) => None,
-        Inner::Block(_, number) => match index.site_at(number) {
+        Inner::Block(_, number) => match index.site_at(*number) {
             Some(site) => into_block(site, step, at.start),
             None => None,
         },
@@ -119,10 +125,10 @@ fn into<'a>(index: &Index<'a>, at: Stand<'a>, step: &Call) -> Option<Stand<'a>>
 }
 
 /// The register to which accessors lead from a module.
-fn leads<'a>(index: &Index<'a>, from: Stand<'a>, steps: &[Call]) -> Option<Found<'a>>
+fn leads<'i, 'a>(index: &'i Index<'a>, from: Stand<'i, 'a>, steps: &[Call]) -> Option<Found<'i, 'a>>
     requires index { IsIndex index.now }
-    requires numbered { IsNumbered index.now.tops.sites.items from.unit }
-    ensures { StartsBelow (leads steps.now (inner_tree from.entry.unit) from.entry.start) → option_map found_seen result ≡ leads steps.now (inner_tree from.entry.unit) from.entry.start }
+    requires numbered { IsNumbered index.now.tops.sites.items from.unit.now }
+    ensures { StartsBelow (leads steps.now (inner_tree from.entry.unit.now) from.entry.start) → option_map found_seen result ≡ leads steps.now (inner_tree from.entry.unit.now) from.entry.start }
 {
     let mut at = from;
     let mut rest = steps;
@@ -140,7 +146,7 @@ fn leads<'a>(index: &Index<'a>, from: Stand<'a>, steps: &[Call]) -> Option<Found
 }
 
 /// The register of a place, with its address. Takes no memory.
-pub fn register_at<'a>(index: &Index<'a>, place: &Place) -> Option<Found<'a>>
+pub fn register_at<'i, 'a>(index: &'i Index<'a>, place: &Place) -> Option<Found<'i, 'a>>
     requires { IsIndex index.now }
     ensures { StartsBelow (register_at (crate_tree index.now.krate.now) place.now) → option_map found_seen result ≡ register_at (crate_tree index.now.krate.now) place.now }
 {

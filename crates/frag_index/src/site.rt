@@ -5,29 +5,30 @@ ghost use Rattle.frag_tree.specs.Trees.{block_tree, module_tree, one_block};
 ghost use Rattle.frag_index.specs.declared.site.Site.{Site as SiteRow};
 ghost use Rattle.frag_index.specs.Sites.{HoldsNothing, IsAdded, LeadsBehind, SiteFits, field_count};
 
+use crate::unit::Unit;
 use frag_rules::{Inside, Layout, Measure, Named};
-use frag_tree::{Access, Block, Body, FieldType, Module, RegisterModule, StructField};
+use frag_tree::{Access, Block, Body, FieldType, Module, StructField};
 use pac_base::NoMemory;
 use std::alloc::Global;
 
 /// A module of a crate.
-#[derive(Clone, Copy)]
+#[derive(Drop)]
 pub enum Inner<'a> {
     /// A register's.
-    Register(&'a RegisterModule),
+    Register(Unit<'a>),
     /// A block's, with its number in the index.
     Block(&'a Block, usize),
 }
 
 /// A module behind an accessor, and how many members the accessor leads to; none where it takes no index.
 #[derive(Clone, Copy)]
-pub struct Behind<'a> {
+pub struct Behind<'i, 'a> {
     pub count: Option<u64>,
-    pub unit: Inner<'a>,
+    pub unit: &'i Inner<'a>,
 }
 
 /// A module that was taken into the index, with what it takes.
-#[derive(Clone, Copy)]
+#[derive(Drop)]
 pub(crate) struct Added<'a> {
     pub unit: Inner<'a>,
     pub measure: Measure,
@@ -99,20 +100,20 @@ impl<'a> Site<'a> {
     }
 
     /// The module behind an accessor.
-    fn through(&self, access: &Access) -> Option<Behind<'a>>
+    fn through<'i>(&'i self, access: &Access) -> Option<Behind<'i, 'a>>
         ensures { (sites : List SiteRow) → SiteFits sites self.now → LeadsBehind sites (inner_of (block_tree self.now.block.now) access.now) result }
     {
         match self.within.units.get(&access.element) {
             Some(unit) => Some(Behind {
                 count: self.count_of(access),
-                unit: *unit,
+                unit,
             }),
             None => None,
         }
     }
 
     /// The module behind the accessor of a name.
-    pub(crate) fn behind(&self, name: &[u8]) -> Option<Behind<'a>>
+    pub(crate) fn behind<'i>(&'i self, name: &[u8]) -> Option<Behind<'i, 'a>>
         ensures { (sites : List SiteRow) → SiteFits sites self.now → LeadsBehind sites (inner_named (one_block (block_tree self.now.block.now)) name.now) result }
     {
         match self.accessors.get(name) {

@@ -29,7 +29,7 @@ use Rattle.frag_rules.proofs.ByName.{bytes-turned}
 -- ---- types
 
 -- keys are the same just where the types are
-key-same : (one other : ProxyType) → same_key (key_of one) (key_of other) ≡ same_type one other
+pub key-same : (one other : ProxyType) → same_key (key_of one) (key_of other) ≡ same_type one other
 key-same (bit_reader one) (bit_reader other) = refl
 key-same (bit_reader one) (field_reader other also) = refl
 key-same (bit_reader one) (bit_writer also other) = refl
@@ -172,7 +172,7 @@ has-types unit none reads all readers writers empty r w one two wanted =
     ∙ (sym (list_any-append (same_key wanted) (map key_of (map reader_type (readers_of unit))) (map key_of (map writer_type (writers_of unit))))
     ∙ ap (list_any (same_key wanted)) (sym (map-append key_of (map reader_type (readers_of unit)) (map writer_type (writers_of unit)))))))
 
-call-eq : (one other : CallKey) → calls.ghosts.eq one other ≡ same_call_key (call_seen one) (call_seen other)
+pub call-eq : (one other : CallKey) → calls.ghosts.eq one other ≡ same_call_key (call_seen one) (call_seen other)
 call-eq one other = ap (λ b. b && bytes_eq one.name.now other.name.now) (type-eq one.on other.on)
 
 any-seen : (call : CallKey) (seen : List CallKey) → list_any (calls.ghosts.eq call) seen ≡ list_any (same_call_key (call_seen call)) (map call_seen seen)

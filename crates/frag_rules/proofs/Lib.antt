@@ -3,7 +3,7 @@ mod Entries
 mod Firsts
 mod Gathering
 pub mod Insides
-mod Keys
+pub mod Keys
 pub mod Measuring
 mod Misfits
 mod PreludeWords

@@ -27,4 +27,5 @@ pub use named::{HasName, Named, by_name};
 pub use proxy::{
     CallKey, TypeKey, key_of_reader, key_of_values, key_of_writer, numbers_of, truths_of,
 };
+pub use register::{readers_of, writers_of};
 pub use rule::Rule;

@@ -9,7 +9,9 @@ ghost use Rattle.frag_rules.specs.Elements.{element_of};
 ghost use Rattle.frag_rules.specs.Held.{names_seen};
 ghost use Rattle.frag_rules.specs.Naming.{FindsFirst};
 
-use frag_tree::{Access, Block, Identifier, Module, Reader, Slot, StructField, Writer};
+use frag_tree::{
+    Access, Block, Identifier, Module, NumberCall, Reader, Slot, StructField, TruthCall, Writer,
+};
 use indexmap::{IndexMap, IndexSet};
 use pac_base::NoMemory;
 use std::alloc::Global;
@@ -92,6 +94,22 @@ impl HasName for Writer {
     }
 }
 
+impl HasName for TruthCall {
+    ghost name_of = { λ call. call.name };
+
+    fn own_name(&self) -> &[u8] {
+        self.name.bytes()
+    }
+}
+
+impl HasName for NumberCall {
+    ghost name_of = { λ call. call.name };
+
+    fn own_name(&self) -> &[u8] {
+        self.name.bytes()
+    }
+}
+
 /// Items by their names. Contracts see it as a list of names with their items.
 #[derive(Drop)]
 pub struct Named<'a, T> {
@@ -129,6 +147,14 @@ impl<'a, T: Drop> Named<'a, T> {
         ensures { result ≡ is_some (lookup (bytes_eq name.now) self.now) }
     {
         self.get(name).is_some()
+    }
+
+    /// Gives the name this item, in place of the one that it has.
+    pub fn set(&mut self, name: &'a [u8], item: T) -> Result<(), NoMemory>
+        ensures { IfOk result (λ _. (other : List ℕ) → lookup (bytes_eq other) self.new ≡ (if bytes_eq other name.now then Some item else lookup (bytes_eq other) self.old)) }
+    {
+        self.held.insert(name, item)?;
+        Ok(())
     }
 
     /// Gives the name this item, where it has none.

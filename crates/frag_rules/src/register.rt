@@ -21,7 +21,7 @@ use pac_base::{NoMemory, Width};
 use std::alloc::Global;
 
 /// The calls that read fields.
-pub(crate) fn readers_of(unit: &RegisterModule) -> &[Reader]
+pub fn readers_of(unit: &RegisterModule) -> &[Reader]
     ensures { result.now ≡ readers_of unit.now }
 {
     match &unit.readers {
@@ -31,7 +31,7 @@ pub(crate) fn readers_of(unit: &RegisterModule) -> &[Reader]
 }
 
 /// The calls that write fields.
-pub(crate) fn writers_of(unit: &RegisterModule) -> &[Writer]
+pub fn writers_of(unit: &RegisterModule) -> &[Writer]
     ensures { result.now ≡ writers_of unit.now }
 {
     match &unit.writers {

@@ -1,5 +1,6 @@
 -- The calls of values on the types of readers and writers.
-use Rattle.std.proofs.Common.{◌≡◌, ℕ, Bool, true, false, ◌&&◌, ◌||◌, List, [], ◌∷◌, ◌++◌, map, find, Option, Some, None, option_map, refl, sym, ap, ◌∙◌, if◌then◌else◌, codes}
+use Rattle.std.proofs.Common.{◌≡◌, ℕ, Bool, true, false, ◌&&◌, ◌||◌, List, [], ◌∷◌, ◌++◌, map, find, Option, Some, None, option_map, is_some, refl, sym, ap, ap₂, ◌∙◌, if◌then◌else◌, codes}
+use Rattle.std.specs.Borrow.{Bor}
 use Rattle.std.specs.List.{list_any}
 use Rattle.std.specs.Str.{bytes_eq}
 use Rattle.std.proofs.lemmas.Bool.{false≢true}
@@ -9,10 +10,12 @@ use Rattle.frag_sem.specs.ProxyTypes.{ProxyType, bit_reader, bit_writer, field_r
 use Rattle.frag_sem.specs.Surfaces.{ReadCall, WriteCall, number, truth}
 use Rattle.frag_sem.specs.TextSurface.{plain_call, test_call}
 use Rattle.frag_tree.specs.declared.register.BitKind.{BitKind}
+use Rattle.frag_tree.specs.declared.register.NumberCall.{NumberCall}
 use Rattle.frag_tree.specs.declared.register.ReadForm.TheVariants as read
 use Rattle.frag_tree.specs.declared.register.Reader.{Reader}
 use Rattle.frag_tree.specs.declared.register.RegisterModule.{RegisterModule}
 use Rattle.frag_tree.specs.declared.register.Spot.{Spot}
+use Rattle.frag_tree.specs.declared.register.TruthCall.{TruthCall}
 use Rattle.frag_tree.specs.declared.register.Values.{Values}
 use Rattle.frag_tree.specs.declared.register.Values.TheVariants as values
 use Rattle.frag_tree.specs.declared.register.WriteForm.TheVariants as write
@@ -20,6 +23,7 @@ use Rattle.frag_tree.specs.declared.register.Writer.{Writer}
 use Rattle.pac_base.specs.declared.width.Width.{Width}
 use Rattle.frag_types.specs.Fields.{given, given_as, taken, taken_as, tests_bit, writes_bit}
 use Rattle.frag_types.specs.Proxies.{on_type}
+use Rattle.frag_types.proofs.Steps.{is-there}
 
 any-mapped : {A : Type 0} (name_of : A → List ℕ) (items : List A) (name : List ℕ) → list_any (λ x. bytes_eq name (name_of x)) items ≡ list_any (bytes_eq name) (map name_of items)
 any-mapped name_of [] name = refl
@@ -34,18 +38,58 @@ or-or true b c = refl
 or-or false b c = refl
 
 -- the calls of a block of values, of which it has one kind
-pub any_value : (block : Values) (name : List ℕ)
+any_value : (block : Values) (name : List ℕ)
     → (list_any (λ call. bytes_eq name call.name) (truth_calls block) || list_any (λ call. bytes_eq name call.name) (number_calls block)) ≡ list_any (bytes_eq name) (value_names block)
 any_value block name =
     ap (λ b. b || list_any (λ call. bytes_eq name call.name) (number_calls block)) (any-mapped (λ call. call.name) (truth_calls block) name)
     ∙ (ap (λ b. list_any (bytes_eq name) (map (λ call. call.name) (truth_calls block)) || b) (any-mapped (λ call. call.name) (number_calls block) name)
     ∙ sym (list_any-append (bytes_eq name) (map (λ call. call.name) (truth_calls block)) (map (λ call. call.name) (number_calls block))))
 
-pub value-here : (block : Values) (name : List ℕ) → list_any (λ call. bytes_eq name call.name) (truth_calls block) ≡ true → true ≡ list_any (bytes_eq name) (value_names block)
-value-here block name here = ap (λ b. b || list_any (λ call. bytes_eq name call.name) (number_calls block)) (sym here) ∙ any_value block name
+or-turned : (a b c d : Bool) → ((a || b) || (c || d)) ≡ ((a || c) || (b || d))
+or-turned true b c d = refl
+or-turned false true true d = refl
+or-turned false true false d = refl
+or-turned false false c d = refl
 
-pub value-else : (block : Values) (name : List ℕ) → list_any (λ call. bytes_eq name call.name) (truth_calls block) ≡ false → list_any (λ call. bytes_eq name call.name) (number_calls block) ≡ list_any (bytes_eq name) (value_names block)
-value-else block name none = ap (λ b. b || list_any (λ call. bytes_eq name call.name) (number_calls block)) (sym none) ∙ any_value block name
+-- the calls on a type are those for truths and those for numbers
+on-both : (type : ProxyType) (name : List ℕ) (all : List Values)
+    → (list_any (λ call. bytes_eq name call.name) (truths_on type all) || list_any (λ call. bytes_eq name call.name) (numbers_on type all)) ≡ on_type type name all
+unfolding on_type
+on-both type name [] = refl
+on-both type name (block ∷ others) =
+    ap₂ (λ a b. a || b) (list_any-append (λ call. bytes_eq name call.name) (if same_type type (values_type block) then truth_calls block else []) (truths_on type others))
+    (list_any-append (λ call. bytes_eq name call.name) (if same_type type (values_type block) then number_calls block else []) (numbers_on type others))
+    ∙ (or-turned (list_any (λ call. bytes_eq name call.name) (if same_type type (values_type block) then truth_calls block else [])) (list_any (λ call. bytes_eq name call.name) (truths_on type others))
+    (list_any (λ call. bytes_eq name call.name) (if same_type type (values_type block) then number_calls block else [])) (list_any (λ call. bytes_eq name call.name) (numbers_on type others))
+    ∙ ap₂ (λ a b. a || b) (by (same_type type (values_type block))) (on-both type name others))
+  where
+    by : (b : Bool) → (list_any (λ call. bytes_eq name call.name) (if b then truth_calls block else []) || list_any (λ call. bytes_eq name call.name) (if b then number_calls block else [])) ≡ (b && list_any (bytes_eq name) (value_names block))
+    by true = any_value block name
+    by false = refl
+
+is-among : {A : Type 0} (test : A → Bool) (xs : List A) → is_some (find test xs) ≡ list_any test xs
+is-among test [] = refl
+is-among {A} test (x ∷ xs) = by (test x) (is-among test xs)
+  where
+    by : (b : Bool) → is_some (find test xs) ≡ list_any test xs → is_some (if b then Some x else find test xs) ≡ (b || list_any test xs)
+    by true more = refl
+    by false more = more
+
+-- a call of a name is there where one was found
+is-called : {A : Type 0} (test : A → Bool) (xs : List A) (found : Option (Bor A)) → option_map (λ (call : Bor A). call.now) found ≡ find test xs → is_some found ≡ list_any test xs
+is-called test xs found is = is-there (λ call. call.now) found (find test xs) is ∙ is-among test xs
+
+pub on-here : (type : ProxyType) (name : List ℕ) (all : List Values) (said : Option (Bor TruthCall)) → option_map (λ (call : Bor TruthCall). call.now) said ≡ find (λ call. bytes_eq name call.name) (truths_on type all)
+    → is_some said ≡ true → true ≡ on_type type name all
+on-here type name all said is there =
+    ap (λ b. b || list_any (λ call. bytes_eq name call.name) (numbers_on type all)) (sym there ∙ is-called (λ call. bytes_eq name call.name) (truths_on type all) said is) ∙ on-both type name all
+
+pub on-else : (type : ProxyType) (name : List ℕ) (all : List Values) (said : Option (Bor TruthCall)) (counted : Option (Bor NumberCall))
+    → option_map (λ (call : Bor TruthCall). call.now) said ≡ find (λ call. bytes_eq name call.name) (truths_on type all) → option_map (λ (call : Bor NumberCall). call.now) counted ≡ find (λ call. bytes_eq name call.name) (numbers_on type all)
+    → is_some said ≡ false → is_some counted ≡ on_type type name all
+on-else type name all said counted is also none =
+    is-called (λ call. bytes_eq name call.name) (numbers_on type all) counted also
+    ∙ (ap (λ b. b || list_any (λ call. bytes_eq name call.name) (numbers_on type all)) (sym none ∙ is-called (λ call. bytes_eq name call.name) (truths_on type all) said is) ∙ on-both type name all)
 
 -- where each block on the type has truths alone, those on it
 truths-found : (type : ProxyType) → ((block : Values) → same_type type (values_type block) ≡ true → number_calls block ≡ []) → (name : List ℕ) (all : List Values)

@@ -1,5 +1,4 @@
 pub mod Refusals
-pub mod Held
 pub mod Proxies
 pub mod Fields
 pub mod Lines

@@ -7,17 +7,22 @@ use crate::field::write_type;
 use crate::names::Names;
 use crate::value::{argument_types, value_types};
 use crate::value_type::{ValueType, Wanted};
+use frag_index::Unit;
 use frag_script::ScriptTyping;
-use frag_tree::{Link, RegisterModule};
+use frag_tree::Link;
 
 /// One link of a chain.
-fn link_types(names: &Names<'_, '_>, unit: &RegisterModule, link: &Link) -> Result<(), ScriptTyping>
+fn link_types(
+    names: &Names<'_, '_, '_, '_>,
+    unit: &Unit<'_>,
+    link: &Link,
+) -> Result<(), ScriptTyping>
     ensures { told_held result ≡ link_types (names_of names.now) (register_calls unit.now) link.now }
 {
     match link {
         Link::Bits { value } => value_types(
             names,
-            Wanted::Just(ValueType::Number(unit.word)),
+            Wanted::Just(ValueType::Number(unit.word())),
             value,
         ),
         Link::Field {
@@ -35,8 +40,8 @@ fn link_types(names: &Names<'_, '_>, unit: &RegisterModule, link: &Link) -> Resu
 
 /// The links of a chain, in order.
 pub(crate) fn chain_types(
-    names: &Names<'_, '_>,
-    unit: &RegisterModule,
+    names: &Names<'_, '_, '_, '_>,
+    unit: &Unit<'_>,
     chain: &[Link],
 ) -> Result<(), ScriptTyping>
     ensures { told_held result ≡ chain_types (names_of names.now) (register_calls unit.now) chain.now }

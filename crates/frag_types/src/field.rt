@@ -1,17 +1,17 @@
-ghost use Rattle.std.specs.Prelude.{◌≡◌, find, option_map};
+ghost use Rattle.std.specs.Prelude.{◌≡◌, option_map};
 ghost use Rattle.std.specs.List.{list_any};
 ghost use Rattle.std.specs.Str.{bytes_eq};
 ghost use Rattle.frag_sem.specs.PreludeCalls.{bit_tests, bit_writes};
-ghost use Rattle.frag_sem.specs.ProxyTypes.{readers_of, writers_of};
 ghost use Rattle.frag_sem.specs.Spots.{spot_count};
 ghost use Rattle.frag_types.specs.Fields.{given, given_as, read_count, read_type, taken, taken_as, tests_bit, write_count, write_type, writes_bit};
 ghost use Rattle.frag_types.specs.Telling.{told, type_seen};
 
 use crate::place::index_fits;
-use crate::proxy::{on_type, reader_type, writer_type};
+use crate::proxy::{on_reader, on_writer};
 use crate::value_type::ValueType;
+use frag_index::Unit;
 use frag_script::ScriptTyping;
-use frag_tree::{BitKind, Call, ReadForm, Reader, RegisterModule, Spot, Values, WriteForm, Writer};
+use frag_tree::{BitKind, Call, ReadForm, Reader, Spot, WriteForm, Writer};
 
 fn is_text(name: &[u8], text: &[u8]) -> bool
     ensures { result ≡ bytes_eq name.now text.now }
@@ -69,44 +69,18 @@ fn write_count(form: &WriteForm) -> Option<u64>
     }
 }
 
-/// The reader of a name.
-fn reader_named<'a>(unit: &'a RegisterModule, name: &[u8]) -> Option<&'a Reader>
-    ensures { option_map (λ reader. reader.now) result ≡ find (λ reader. bytes_eq name.now reader.name) (readers_of unit.now) }
-{
-    match &unit.readers {
-        Some(readers) => readers
-            .as_slice()
-            .iter()
-            .find(|reader| reader.name.bytes() == name),
-        None => None,
-    }
-}
-
-/// The writer of a name.
-fn writer_named<'a>(unit: &'a RegisterModule, name: &[u8]) -> Option<&'a Writer>
-    ensures { option_map (λ writer. writer.now) result ≡ find (λ writer. bytes_eq name.now writer.name) (writers_of unit.now) }
-{
-    match &unit.writers {
-        Some(writers) => writers
-            .as_slice()
-            .iter()
-            .find(|writer| writer.name.bytes() == name),
-        None => None,
-    }
-}
-
 /// Whether the reader of a bit has a call of the name.
-fn tests_bit(reader: &Reader, values: &[Values], method: &[u8]) -> bool
-    ensures { result ≡ tests_bit reader.now values.now method.now }
+fn tests_bit(reader: &Reader, unit: &Unit<'_>, method: &[u8]) -> bool
+    ensures { result ≡ tests_bit reader.now unit.now.values method.now }
 {
-    is_text(method, b"bit") || (is_bit_test(method) || on_type(reader_type(reader), values, method))
+    is_text(method, b"bit") || (is_bit_test(method) || on_reader(reader, unit, method))
 }
 
 /// Whether the writer of a bit has a call of the name that says what it writes.
-fn writes_bit(kind: BitKind, writer: &Writer, values: &[Values], method: &[u8]) -> bool
-    ensures { result ≡ writes_bit kind writer.now values.now method.now }
+fn writes_bit(kind: BitKind, writer: &Writer, unit: &Unit<'_>, method: &[u8]) -> bool
+    ensures { result ≡ writes_bit kind writer.now unit.now.values method.now }
 {
-    is_bit_write(kind, method) || on_type(writer_type(writer), values, method)
+    is_bit_write(kind, method) || on_writer(writer, unit, method)
 }
 
 fn given_as(is_whole: bool, whole: ValueType, is_test: bool) -> Option<ValueType>
@@ -135,38 +109,36 @@ fn taken_as(is_whole: bool, whole: ValueType, is_plain: bool) -> Option<Option<V
 
 /// What a method of a reader gives.
 #[tactic(auto, using(crate::proofs::Calls::given_bit, crate::proofs::Calls::given_field))]
-fn given(unit: &RegisterModule, reader: &Reader, method: &[u8]) -> Option<ValueType>
+fn given(unit: &Unit<'_>, reader: &Reader, method: &[u8]) -> Option<ValueType>
     ensures { option_map type_seen result ≡ given unit.now reader.now method.now }
 {
-    let values = unit.values.as_slice();
     match &reader.form {
         ReadForm::Bit { .. } => {
-            given_as(tests_bit(reader, values, method), ValueType::Truth, false)
+            given_as(tests_bit(reader, unit, method), ValueType::Truth, false)
         }
         ReadForm::Field { width, .. } => given_as(
             is_text(method, b"bits"),
             ValueType::Number(*width),
-            on_type(reader_type(reader), values, method),
+            on_reader(reader, unit, method),
         ),
     }
 }
 
 /// What a method of a writer takes, if anything.
 #[tactic(auto, using(crate::proofs::Calls::taken_bit, crate::proofs::Calls::taken_field))]
-fn taken(unit: &RegisterModule, writer: &Writer, method: &[u8]) -> Option<Option<ValueType>>
+fn taken(unit: &Unit<'_>, writer: &Writer, method: &[u8]) -> Option<Option<ValueType>>
     ensures { option_map (option_map type_seen) result ≡ taken unit.now writer.now method.now }
 {
-    let values = unit.values.as_slice();
     match &writer.form {
         WriteForm::Bit { kind, .. } => taken_as(
             is_text(method, b"bit"),
             ValueType::Truth,
-            writes_bit(*kind, writer, values, method),
+            writes_bit(*kind, writer, unit, method),
         ),
         WriteForm::Field { width, .. } => taken_as(
             is_text(method, b"bits"),
             ValueType::Number(*width),
-            on_type(writer_type(writer), values, method),
+            on_writer(writer, unit, method),
         ),
     }
 }
@@ -174,13 +146,13 @@ fn taken(unit: &RegisterModule, writer: &Writer, method: &[u8]) -> Option<Option
 /// What a method of a field gives that can be read.
 #[tactic(auto, unfolding(crate::specs::Fields::read_type))]
 pub(crate) fn read_type(
-    unit: &RegisterModule,
+    unit: &Unit<'_>,
     field: &Call,
     method: &[u8],
 ) -> Result<ValueType, ScriptTyping>
     ensures { told type_seen result ≡ read_type unit.now field.now method.now }
 {
-    match reader_named(unit, field.name.bytes()) {
+    match unit.reader(field.name.bytes()) {
         Some(reader) => {
             match index_fits(read_count(&reader.form), field.index) {
                 Ok(()) => match given(unit, reader, method) {
@@ -197,13 +169,13 @@ pub(crate) fn read_type(
 /// What a method of a field takes that can be written.
 #[tactic(auto, unfolding(crate::specs::Fields::write_type))]
 pub(crate) fn write_type(
-    unit: &RegisterModule,
+    unit: &Unit<'_>,
     field: &Call,
     method: &[u8],
 ) -> Result<Option<ValueType>, ScriptTyping>
     ensures { told (option_map type_seen) result ≡ write_type unit.now field.now method.now }
 {
-    match writer_named(unit, field.name.bytes()) {
+    match unit.writer(field.name.bytes()) {
         Some(writer) => {
             match index_fits(write_count(&writer.form), field.index) {
                 Ok(()) => match taken(unit, writer, method) {

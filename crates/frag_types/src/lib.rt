@@ -8,7 +8,6 @@ mod chain;
 mod fault;
 mod field;
 mod krate;
-mod named;
 mod names;
 mod place;
 mod proxy;

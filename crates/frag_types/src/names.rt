@@ -4,14 +4,14 @@ ghost use Rattle.frag_sem.specs.ScriptTyping.{name_of, reader_name, writer_name}
 ghost use Rattle.frag_sem.specs.TextSurface.{register_calls};
 ghost use Rattle.frag_types.specs.Telling.{names_and, names_in};
 
-use crate::named::Named;
-use frag_tree::RegisterModule;
+use frag_index::Unit;
+use frag_rules::Named;
 
 /// The names that a value may use: those that are bound, and `r` within a `modify` that names what it read.
 #[derive(Clone, Copy)]
-pub(crate) struct Names<'n, 'a> {
-    pub bound: &'n Named<'a, &'a RegisterModule>,
-    pub read: Option<&'a RegisterModule>,
+pub(crate) struct Names<'n, 's, 'i, 'a> {
+    pub bound: &'n Named<'s, &'i Unit<'a>>,
+    pub read: Option<&'i Unit<'a>>,
 }
 
 /// Whether the name is that of the reader of a `modify`.
@@ -29,15 +29,15 @@ pub(crate) fn is_writer(name: &[u8]) -> bool
 }
 
 /// The register that is bound to a name.
-fn bound_to<'a>(bound: &Named<'a, &'a RegisterModule>, name: &[u8]) -> Option<&'a RegisterModule>
+fn bound_to<'i, 'a>(bound: &Named<'_, &'i Unit<'a>>, name: &[u8]) -> Option<&'i Unit<'a>>
     ensures { option_map (λ unit. register_calls unit.now) result ≡ name_of (names_in bound.now) name.now }
 {
     bound.get(name).copied()
 }
 
-impl<'n, 'a> Names<'n, 'a> {
+impl<'n, 's, 'i, 'a> Names<'n, 's, 'i, 'a> {
     /// The register of which the name is a reader.
-    pub(crate) fn get(&self, name: &[u8]) -> Option<&'a RegisterModule>
+    pub(crate) fn get(&self, name: &[u8]) -> Option<&'i Unit<'a>>
         ensures { option_map (λ unit. register_calls unit.now) result ≡ name_of (names_and self.now.read self.now.bound.now) name.now }
     {
         match self.read {

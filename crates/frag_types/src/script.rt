@@ -7,10 +7,10 @@ ghost use Rattle.frag_tree.specs.Trees.{crate_tree};
 ghost use Rattle.frag_types.specs.Refusals.{IsScriptRefusal};
 ghost use Rattle.frag_types.specs.Lines.{fault_seen};
 
-use crate::named::Named;
 use crate::statement::{bind, statement_types};
 use crate::typed::{TypedCrate, TypedScript};
 use frag_index::Index;
+use frag_rules::Named;
 use frag_script::{ScriptFault, ScriptTyping};
 use frag_tree::{Crate, Script};
 use pac_base::{Back, NoMemory};
@@ -24,11 +24,7 @@ pub(crate) struct Unfit {
 }
 
 /// The first line of a script that doesn't type.
-fn first_unfit<'a>(
-    alloc: Global,
-    index: &Index<'a>,
-    script: &'a Script,
-) -> Result<Option<Unfit>, NoMemory>
+fn first_unfit(alloc: Global, index: &Index<'_>, script: &Script) -> Result<Option<Unfit>, NoMemory>
     requires { IsIndex index.now }
     ensures { IfOk result (λ unfit. option_map fault_seen unfit ≡ module_fault (crate_tree index.now.krate.now) script.now) }
 {

@@ -13,27 +13,27 @@ ghost use Rattle.frag_tree.specs.declared.statement.Statement.{Statement};
 ghost use Rattle.frag_types.specs.Telling.{HaveSame, allowed, alone, bound_behind, chain_leads, is_taken, let_leads, let_of, names_and, names_in, told, told_held, with_bound, with_names};
 
 use crate::chain::chain_types;
-use crate::named::Named;
 use crate::names::{Names, is_reader, is_writer};
 use crate::place::{Use, call_leads, is_slot};
 use crate::value::value_types;
 use crate::value_type::Wanted;
-use frag_index::Index;
+use frag_index::{Index, Unit};
+use frag_rules::Named;
 use frag_script::ScriptTyping;
-use frag_tree::{Link, Place, RegisterModule, Statement, Value};
+use frag_tree::{Link, Place, Statement, Value};
 use pac_base::NoMemory;
 
 /// The names that are bound, each with the register that it read.
-pub(crate) type Bound<'a> = Named<'a, &'a RegisterModule>;
+pub(crate) type Bound<'s, 'i, 'a> = Named<'s, &'i Unit<'a>>;
 
-fn is_bound(bound: &Bound<'_>, name: &[u8]) -> bool
+fn is_bound(bound: &Bound<'_, '_, '_>, name: &[u8]) -> bool
     ensures { result ≡ list_any (λ entry. bytes_eq name.now entry.0) (names_in bound.now) }
 {
     bound.get(name).is_some()
 }
 
 /// Whether a name is bound, a slot, `r` or `w`.
-fn is_taken(index: &Index<'_>, bound: &Bound<'_>, name: &[u8]) -> bool
+fn is_taken(index: &Index<'_>, bound: &Bound<'_, '_, '_>, name: &[u8]) -> bool
     requires { IsIndex index.now }
     ensures { result ≡ is_taken (module_scope (crate_tree index.now.krate.now)) (names_in bound.now) name.now }
 {
@@ -41,12 +41,12 @@ fn is_taken(index: &Index<'_>, bound: &Bound<'_>, name: &[u8]) -> bool
 }
 
 /// The register that a `let` reads, if it may bind the name.
-fn let_leads<'a>(
-    index: &Index<'a>,
-    bound: &Bound<'a>,
+fn let_leads<'i, 'a>(
+    index: &'i Index<'a>,
+    bound: &Bound<'_, 'i, 'a>,
     name: &[u8],
     place: &Place,
-) -> Result<&'a RegisterModule, ScriptTyping>
+) -> Result<&'i Unit<'a>, ScriptTyping>
     requires { IsIndex index.now }
     ensures { told (λ unit. unit.now) result ≡ let_leads (crate_tree index.now.krate.now) (names_in bound.now) name.now place.now }
 {
@@ -57,7 +57,7 @@ fn let_leads<'a>(
     }
 }
 
-fn reader_within<'a>(names_reader: bool, unit: &'a RegisterModule) -> Option<&'a RegisterModule>
+fn reader_within<'i, 'a>(names_reader: bool, unit: &'i Unit<'a>) -> Option<&'i Unit<'a>>
     ensures { (bound : List (List ℕ × Bor RegisterModule)) → names_and result bound ≡ names_within (names_in bound) (register_calls unit.now) names_reader }
 {
     if names_reader { Some(unit) } else { None }
@@ -65,9 +65,9 @@ fn reader_within<'a>(names_reader: bool, unit: &'a RegisterModule) -> Option<&'a
 
 /// A chain on the register at the end of a place.
 #[tactic(auto, unfolding(crate::specs::Telling::chain_leads))]
-fn chain_leads<'a>(
-    index: &Index<'a>,
-    bound: &Bound<'a>,
+fn chain_leads<'i, 'a>(
+    index: &'i Index<'a>,
+    bound: &Bound<'_, 'i, 'a>,
     used: Use,
     place: &Place,
     names_reader: bool,
@@ -96,16 +96,16 @@ fn register_leads(index: &Index<'_>, used: Use, place: &Place) -> Result<(), Scr
     }
 }
 
-fn said(bound: &Bound<'_>, value: &Value) -> Result<(), ScriptTyping>
+fn said(bound: &Bound<'_, '_, '_>, value: &Value) -> Result<(), ScriptTyping>
     ensures { told_held result ≡ value_types (names_in bound.now) anything value.now }
 {
     value_types(&Names { bound, read: None }, Wanted::Anything, value)
 }
 
 /// What a `let` binds.
-fn binding<'a>(
-    read: Result<&'a RegisterModule, ScriptTyping>,
-) -> Result<Option<&'a RegisterModule>, ScriptTyping>
+fn binding<'i, 'a>(
+    read: Result<&'i Unit<'a>, ScriptTyping>,
+) -> Result<Option<&'i Unit<'a>>, ScriptTyping>
     ensures { (names : Bindings) (name : List ℕ) (place : Place) → told (bound_behind names (let_of name place)) result ≡ with_bound names name (told (λ unit. unit.now) read.entry) }
 {
     match read {
@@ -115,9 +115,10 @@ fn binding<'a>(
 }
 
 /// Nothing is bound.
-fn binding_nothing<'a>(
+fn binding_nothing<'i, 'a>(
+    _index: &'i Index<'a>,
     typed: Result<(), ScriptTyping>,
-) -> Result<Option<&'a RegisterModule>, ScriptTyping>
+) -> Result<Option<&'i Unit<'a>>, ScriptTyping>
     ensures { (names : Bindings) (statement : Statement) → told (bound_behind names statement) result ≡ with_names names (told_held typed) }
 {
     match typed {
@@ -127,44 +128,56 @@ fn binding_nothing<'a>(
 }
 
 /// A statement types; that of a `let` with the register that its name reads.
-pub(crate) fn statement_types<'a>(
-    index: &Index<'a>,
-    bound: &Bound<'a>,
+pub(crate) fn statement_types<'i, 'a>(
+    index: &'i Index<'a>,
+    bound: &Bound<'_, 'i, 'a>,
     statement: &Statement,
-) -> Result<Option<&'a RegisterModule>, ScriptTyping>
+) -> Result<Option<&'i Unit<'a>>, ScriptTyping>
     requires { IsIndex index.now }
     ensures { told (bound_behind (names_in bound.now) statement.now) result ≡ statement_types (module_scope (crate_tree index.now.krate.now)) (names_in bound.now) statement.now }
 {
     match statement {
         Statement::Let { name, place } => binding(let_leads(index, bound, name.bytes(), place)),
         Statement::Write { place, chain } => {
-            binding_nothing(chain_leads(index, bound, Use::Write, place, false, chain.as_slice()))
+            binding_nothing(
+                index,
+                chain_leads(index, bound, Use::Write, place, false, chain.as_slice()),
+            )
         }
         Statement::WriteWithZero { place, chain } => {
-            binding_nothing(chain_leads(index, bound, Use::Write, place, false, chain.as_slice()))
+            binding_nothing(
+                index,
+                chain_leads(index, bound, Use::Write, place, false, chain.as_slice()),
+            )
         }
         Statement::Modify {
             place,
             names_reader,
             chain,
-        } => binding_nothing(chain_leads(
+        } => binding_nothing(
             index,
-            bound,
-            Use::Modify,
-            place,
-            *names_reader,
-            chain.as_slice(),
-        )),
-        Statement::Reset { place } => binding_nothing(register_leads(index, Use::Write, place)),
-        Statement::Say { value } => binding_nothing(said(bound, value)),
+            chain_leads(
+                index,
+                bound,
+                Use::Modify,
+                place,
+                *names_reader,
+                chain.as_slice(),
+            ),
+        ),
+        Statement::Reset { place } => binding_nothing(
+            index,
+            register_leads(index, Use::Write, place),
+        ),
+        Statement::Say { value } => binding_nothing(index, said(bound, value)),
     }
 }
 
 /// Binds the name of a `let` to what it reads.
-pub(crate) fn bind<'a>(
-    bound: &mut Bound<'a>,
-    statement: &'a Statement,
-    read: Option<&'a RegisterModule>,
+pub(crate) fn bind<'s, 'i, 'a>(
+    bound: &mut Bound<'s, 'i, 'a>,
+    statement: &'s Statement,
+    read: Option<&'i Unit<'a>>,
 ) -> Result<(), NoMemory>
     ensures { IfOk result (λ _. HaveSame (bound_behind (names_in bound.old) statement.now read.entry) (names_in bound.new)) }
 {

@@ -9,12 +9,12 @@ use frag_script::ScriptTyping;
 use frag_tree::{Atom, Source, Value};
 
 /// The type of what a bound name gives.
-fn source_type(names: &Names<'_, '_>, source: &Source) -> Result<ValueType, ScriptTyping>
+fn source_type(names: &Names<'_, '_, '_, '_>, source: &Source) -> Result<ValueType, ScriptTyping>
     ensures { told type_seen result ≡ source_type (names_of names.now) source.now }
 {
     match source {
         Source::Bits { reader } => match names.get(reader.bytes()) {
-            Some(unit) => Ok(ValueType::Number(unit.word)),
+            Some(unit) => Ok(ValueType::Number(unit.word())),
             None => Err(ScriptTyping::NoSuchName),
         },
         Source::Field {
@@ -28,7 +28,11 @@ fn source_type(names: &Names<'_, '_>, source: &Source) -> Result<ValueType, Scri
     }
 }
 
-fn atom_types(names: &Names<'_, '_>, wanted: Wanted, atom: &Atom) -> Result<(), ScriptTyping>
+fn atom_types(
+    names: &Names<'_, '_, '_, '_>,
+    wanted: Wanted,
+    atom: &Atom,
+) -> Result<(), ScriptTyping>
     ensures { told_held result ≡ atom_types (names_of names.now) (wanted_seen wanted) atom.now }
 {
     match atom {
@@ -49,7 +53,7 @@ fn atom_types(names: &Names<'_, '_>, wanted: Wanted, atom: &Atom) -> Result<(), 
 /// A value stands where this is wanted. Behind `!` a truth is wanted, and gives one.
 #[tactic(auto, unfolding(frag_sem::specs::ScriptTyping::value_types))]
 pub(crate) fn value_types(
-    names: &Names<'_, '_>,
+    names: &Names<'_, '_, '_, '_>,
     wanted: Wanted,
     value: &Value,
 ) -> Result<(), ScriptTyping>
@@ -65,7 +69,7 @@ pub(crate) fn value_types(
 
 /// A method has a value just where it takes one.
 pub(crate) fn argument_types(
-    names: &Names<'_, '_>,
+    names: &Names<'_, '_, '_, '_>,
     takes: Option<ValueType>,
     value: &Option<Value>,
 ) -> Result<(), ScriptTyping>

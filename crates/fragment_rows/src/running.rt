@@ -4,7 +4,7 @@ ghost use Rattle.frag_sem.specs.TextSurface.{text_surface};
 ghost use Rattle.frag_tree.specs.Trees.{crate_tree};
 
 use crate::crate_text::EXAMPLE;
-use crate::texts::{CHANNELS, OVERLAID, of_version_two, typed, typed_script, worked_array};
+use crate::texts::{CHANNELS, OVERLAID, TIMERS, of_version_two, typed, typed_script, worked_array};
 use frag_eval::{BusFault, Ready, Role, Running, Stage, begin, prepare, run, step};
 use frag_tree::{Event, Events, Said};
 use frag_types::{TypedCrate, TypedScript};
@@ -353,6 +353,57 @@ fn the_same_events_by_steps(rt: HostRuntime) -> Result<(), Fail> {
     for &(script, rows) in RUNS {
         assert!(rt; gives_alike(rt.alloc(), &krate, script, rows)?, "{script}");
     }
+    Ok(())
+}
+
+// The vendor's script, and its events.
+const VENDOR: &str = "TIM2.cr1().modify(|_, w| w.cen().enabled().ckd().bits(2));
+let s = TIM3.sr().read();
+say(s.uif().bit_is_set());
+TIM3.sr().write(|w| w.uif().clear_bit());
+TIM2.ccr(1).write(|w| w.bits(0x1f4));
+";
+
+const VENDOR_ROWS: [Row; 6] = [
+    Row::Read(0x4000_0000, 16, 0),
+    Row::Write(0x4000_0000, 16, 0x201),
+    Row::Read(0x4000_0410, 32, 0),
+    Row::Truth(false),
+    Row::Write(0x4000_0410, 32, 0),
+    Row::Write(0x4000_0038, 32, 0x1f4),
+];
+
+// Whether five steps make the vendor's events, the third of them what is said too.
+fn gives_in_five<B: Bus>(ready: Ready, bus: &mut B) -> Result<bool, NoMemory> {
+    let mut stage = begin(ready);
+    for made in [0, 1, 2, 4, 5] {
+        let Stage::Running(running) = stage else {
+            return Ok(false);
+        };
+        if running.made().len() != made {
+            return Ok(false);
+        }
+        let Some(next) = stepped(running, bus)? else {
+            return Ok(false);
+        };
+        stage = next;
+    }
+    match stage {
+        Stage::Done(events) => Ok(are_rows(&events, VENDOR_ROWS.as_slice())),
+        Stage::Running(_) => Ok(false),
+    }
+}
+
+#[test]
+fn the_vendors_events_in_five_steps(rt: HostRuntime) -> Result<(), Fail> {
+    let krate = typed(rt.alloc(), TIMERS)?;
+    let script = typed_script(rt.alloc(), &krate, VENDOR)?;
+    let mut bus = ZeroBus::new(rt.alloc());
+    let went = match prepare(rt.alloc(), &krate, script, &mut bus) {
+        Ok(ready) => gives_in_five(ready, &mut bus)?,
+        Err(_) => false,
+    };
+    assert!(rt; went);
     Ok(())
 }
 

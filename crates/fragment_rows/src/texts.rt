@@ -187,6 +187,83 @@ pub mod t {
 }
 ";
 
+/// The part of the text for the vendor's description, its patch applied, that the vendor's script calls.
+pub(crate) const TIMERS: &str = "use crate::generic::*;
+pub struct Peripherals {
+    pub TIM2: Periph<tim::RegisterBlock, 0x40000000>,
+    pub TIM3: Periph<tim::RegisterBlock, 0x40000400>,
+}
+pub mod tim {
+    use crate::generic::*;
+    #[repr(C)]
+    pub struct RegisterBlock {
+        cr1: Reg<cr1::Spec>,
+        _reserved0: [u8; 14],
+        sr: Reg<sr::Spec>,
+        _reserved1: [u8; 32],
+        ccr: [Reg<ccr::Spec>; 2],
+    }
+    impl RegisterBlock {
+        pub fn cr1(&self) -> &Reg<cr1::Spec> { &self.cr1 }
+        pub fn sr(&self) -> &Reg<sr::Spec> { &self.sr }
+        pub fn ccr(&self, n: usize) -> &Reg<ccr::Spec> { &self.ccr[n] }
+    }
+    pub mod cr1 {
+        use crate::generic::*;
+        pub struct Spec;
+        impl RegisterSpec for Spec { type Ux = u16; }
+        impl Readable for Spec {}
+        impl Writable for Spec { const ZERO_TO_MODIFY: u16 = 0x0; const ONE_TO_MODIFY: u16 = 0x0; }
+        impl Resettable for Spec { const RESET_VALUE: u16 = 0x0; }
+        pub struct CEN_F;
+        pub struct CKD_F;
+        impl R<Spec> {
+            pub fn cen(&self) -> BitReader<CEN_F> { BitReader::new(((self.bits >> 0) & 0x1) != 0x0) }
+            pub fn ckd(&self) -> FieldReader<CKD_F, u8> { FieldReader::new(((self.bits >> 8) & 0x3) as u8) }
+        }
+        impl W<Spec> {
+            pub fn cen(&mut self) -> BitWriter<'_, Spec, CEN_F> { BitWriter::new(self, 0) }
+            pub fn ckd(&mut self) -> FieldWriter<'_, Spec, CKD_F, u8, 2> { FieldWriter::new(self, 8) }
+        }
+        impl BitReader<CEN_F> {
+            pub fn is_disabled(&self) -> bool { self.bit() == false }
+            pub fn is_enabled(&self) -> bool { self.bit() == true }
+        }
+        impl<'a> BitWriter<'a, Spec, CEN_F> {
+            pub fn disabled(self) -> &'a mut W<Spec> { self.bit(false) }
+            pub fn enabled(self) -> &'a mut W<Spec> { self.bit(true) }
+        }
+    }
+    pub mod sr {
+        use crate::generic::*;
+        pub struct Spec;
+        impl RegisterSpec for Spec { type Ux = u32; }
+        impl Readable for Spec {}
+        impl Writable for Spec { const ZERO_TO_MODIFY: u32 = 0x1; const ONE_TO_MODIFY: u32 = 0x0; }
+        impl Resettable for Spec { const RESET_VALUE: u32 = 0x0; }
+        pub struct UIF_F;
+        impl R<Spec> {
+            pub fn uif(&self) -> BitReader<UIF_F> { BitReader::new(((self.bits >> 0) & 0x1) != 0x0) }
+        }
+        impl W<Spec> {
+            pub fn uif(&mut self) -> BitWriter0C<'_, Spec, UIF_F> { BitWriter0C::new(self, 0) }
+        }
+    }
+    pub mod ccr {
+        use crate::generic::*;
+        pub struct Spec;
+        impl RegisterSpec for Spec { type Ux = u32; }
+        impl Readable for Spec {}
+        impl Writable for Spec { const ZERO_TO_MODIFY: u32 = 0x0; const ONE_TO_MODIFY: u32 = 0x0; }
+        impl Resettable for Spec { const RESET_VALUE: u32 = 0x0; }
+        impl R<Spec> {
+        }
+        impl W<Spec> {
+        }
+    }
+}
+";
+
 /// The crate of a text, where it fits. A text of no crate is answered with `Syntax`.
 pub(crate) fn typed(alloc: Global, text: &str) -> Result<TypedCrate, CrateFault> {
     let krate = match parse_crate(alloc, text.as_bytes()) {

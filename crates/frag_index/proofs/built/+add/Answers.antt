@@ -2,9 +2,10 @@ use Rattle.std.proofs.Common.{◌≡◌, ◌+◌, drop, map, IfOk, sym, ap, ◌�
 use Rattle.frag_tree.specs.Trees.{ModuleTree, block_tree, in_line, module_tree}
 use Rattle.frag_tree.proofs.Trees.{block_tree-is, module_tree-block, module_tree-register}
 use Rattle.frag_rules.proofs.Distinct.{drop-end}
+use Rattle.frag_rules.proofs.Insides.{if_ok}
 use Rattle.frag_rules.proofs.Sizes.{rest-is}
 use Rattle.frag_index.specs.Sites.{Adds}
-use Rattle.frag_index.proofs.Adding.{block-added, inside-of, laid-of, modules-begin, modules-done, modules-more, register-added}
+use Rattle.frag_index.proofs.Adding.{block-added, inside-of, laid-of, modules-begin, modules-done, modules-more}
 use Rattle.frag_index.proofs.built.+add.Goals as goal
 
 pub add_block-returns : goal.add_block-returns
@@ -32,4 +33,6 @@ add_module-returns-in-Block t c =
 
 pub add_module-returns-in-Register : goal.add_module-returns-in-Register
 add_module-returns-in-Register t c =
-    register-added c.args.sites.now.items _ (module_tree c.args.unit.now) c.measure_register.result (ap module_tree c.in-Register.is ∙ module_tree-register c.in-Register.register) c.measure_register.ensures
+    if_ok c.register_added.result _ _
+    (λ added adds. subst (λ (tree : ModuleTree). Adds c.args.sites.now.items c.args.sites.now.items tree added) (sym (ap module_tree c.in-Register.is ∙ module_tree-register c.in-Register.register)) (adds c.args.sites.now.items))
+    c.register_added.ensures

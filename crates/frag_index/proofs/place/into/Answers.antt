@@ -12,7 +12,7 @@ use Rattle.frag_index.proofs.place.into.Goals as goal
 
 pub returns-in-Register : goal.returns-in-Register
 returns-in-Register c =
-    subst (λ (tree : ModuleTree). Goes c.args.index.now.tops.sites.items None tree c.args.at.start c.args.step.now) (sym (ap inner_tree c.in-Register.is)) (past_register c.args.index.now.tops.sites.items c.in-Register.field-0.now c.args.at.start c.args.step.now)
+    subst (λ (tree : ModuleTree). Goes c.args.index.now.tops.sites.items None tree c.args.at.start c.args.step.now) (sym (ap inner_tree c.in-Register.is)) (past_register c.args.index.now.tops.sites.items c.in-Register.field-0 c.args.at.start c.args.step.now)
 
 pub returns-in-Some : goal.returns-in-Some
 returns-in-Some c =

@@ -5,7 +5,7 @@ use Rattle.frag_index.proofs.place.leads.Given as goal
 
 abbrev pub invariant-loop-step : goal.invariant-loop-step
 invariant-loop-step l =
-    IsNumbered l.fn.index.tops.sites.items l.at.unit × (leads l.rest (inner_tree l.at.unit) l.at.start ≡ leads l.fn.steps (inner_tree l.fn.from.unit) l.fn.from.start)
+    IsNumbered l.fn.index.tops.sites.items l.at.unit.now × (leads l.rest (inner_tree l.at.unit.now) l.at.start ≡ leads l.fn.steps (inner_tree l.fn.from.unit.now) l.fn.from.start)
 
 abbrev pub decreases-loop-step : goal.decreases-loop-step
 decreases-loop-step l = length l.rest

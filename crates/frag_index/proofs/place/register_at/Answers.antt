@@ -1,6 +1,4 @@
-use Rattle.std.proofs.Common.{ap, sym, subst, List, Option, Some, option_map, ◌≡◌, ◌∙◌}
-use Rattle.std.specs.Borrow.{Bor}
-use Rattle.frag_tree.specs.declared.krate.Slot.{Slot}
+use Rattle.std.proofs.Common.{ap, sym, subst, List, Option, option_map, ◌≡◌, ◌∙◌}
 use Rattle.frag_tree.specs.declared.statement.Call.{Call}
 use Rattle.frag_tree.specs.Trees.{crate_tree, one_block}
 use Rattle.frag_sem.specs.CallPlaces.{RegisterAt, leads, register_at, slot_named}
@@ -30,11 +28,11 @@ pub returns : goal.returns
 returns c =
     λ below.
     let krate = crate_tree c.args.index.now.krate.now in
-    let found = led krate c.args.place.now c.in_ok-slot.slot.now (inner_tree c.in_ok-unit.unit)
+    let found = led krate c.args.place.now c.in_ok-slot.slot.now (inner_tree c.in_ok-unit.unit.now)
     (ap (λ name. slot_named name krate.slots) (sym c.bytes.ensures.same) ∙ sym c.in_ok-slot.ensures)
     (c.in_ok-unit.ensures.same ∙ ap (λ name. option_map one_block (top_block name krate.blocks)) c.bytes-2.ensures.same) in
-    let steps : leads c.as_slice.result.now (inner_tree c.in_ok-unit.unit) c.in_ok-slot.slot.now.address ≡ register_at krate c.args.place.now =
-    ap (λ (steps : List Call). leads steps (inner_tree c.in_ok-unit.unit) c.in_ok-slot.slot.now.address) c.as_slice.ensures ∙ found in
+    let steps : leads c.as_slice.result.now (inner_tree c.in_ok-unit.unit.now) c.in_ok-slot.slot.now.address ≡ register_at krate c.args.place.now =
+    ap (λ (steps : List Call). leads steps (inner_tree c.in_ok-unit.unit.now) c.in_ok-slot.slot.now.address) c.as_slice.ensures ∙ found in
     c.leads.ensures (subst (λ (o : Option RegisterAt). StartsBelow o) (sym steps) below) ∙ steps
 
 pub leads-requires-clause-numbered : goal.leads-requires-clause-numbered

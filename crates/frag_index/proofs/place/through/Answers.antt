@@ -2,7 +2,6 @@ use Rattle.std.proofs.Common.{ℕ, ap, sym, subst, Option, Some, ◌≡◌, opti
 use Rattle.frag_tree.specs.Trees.{block_tree}
 use Rattle.frag_rules.specs.Insides.{found_inside}
 use Rattle.frag_sem.specs.CallPlaces.{admits, leads, through}
-use Rattle.frag_sem.specs.Modules.{module_of}
 use Rattle.frag_index.specs.declared.place.Stand.{Stand}
 use Rattle.frag_index.specs.declared.site.Inner.{Inner}
 use Rattle.frag_index.specs.Sites.{AreNumbered, inner_tree}
@@ -20,15 +19,15 @@ returns-in_err-unit c =
     λ sites fits.
     let unit = block_tree c.args.site.now.block.now in
     subst (λ (found : Option Stand). GoesOn sites found (λ steps. through unit c.args.start c.args.step.now c.args.access.now (leads steps))) (sym c.from_residual.ensures)
-    (no_module sites unit c.args.start c.args.step.now c.args.access.now (sym (fits.inside.units_are c.args.access.now.element) ∙ ap (option_map inner_tree) (sym c.get.ensures ∙ sym c.in_err-unit.ensures)))
+    (no_module sites unit c.args.start c.args.step.now c.args.access.now (sym (fits.inside.units_are c.args.access.now.element) ∙ ap (option_map inner_tree) (sym c.in_err-unit.ensures)))
 
 pub returns-in_err-start : goal.returns-in_err-start
 returns-in_err-start c =
     λ sites fits.
     let unit = block_tree c.args.site.now.block.now in
-    let found : found_inside c.args.site.now.within.units c.args.access.now.element ≡ Some c.in_ok-unit.unit = sym c.get.ensures ∙ sym c.in_ok-unit.ensures in
+    let found : found_inside c.args.site.now.within.units c.args.access.now.element ≡ Some c.in_ok-unit.unit.now = sym c.in_ok-unit.ensures in
     subst (λ (found : Option Stand). GoesOn sites found (λ steps. through unit c.args.start c.args.step.now c.args.access.now (leads steps))) (sym c.from_residual-in_err-start.ensures)
-    (stuck sites unit c.args.start c.args.step.now c.args.access.now (inner_tree c.in_ok-unit.unit)
+    (stuck sites unit c.args.start c.args.step.now c.args.access.now (inner_tree c.in_ok-unit.unit.now)
     (ap (λ (count : Option ℕ). admits count c.args.step.now.index) (sym (c.count_of.ensures sites fits)) ∙ (sym c.admits.ensures ∙ c.if-not-admits.false))
     (sym (fits.inside.units_are c.args.access.now.element) ∙ ap (option_map inner_tree) found)
     (c.in_err-start.ensures ∙ c.offset_of.ensures sites fits c.args.start))
@@ -37,7 +36,7 @@ pub returns : goal.returns
 returns c =
     λ sites fits.
     let unit = block_tree c.args.site.now.block.now in
-    let found : found_inside c.args.site.now.within.units c.args.access.now.element ≡ Some c.in_ok-unit.unit = sym c.get.ensures ∙ sym c.in_ok-unit.ensures in
+    let found : found_inside c.args.site.now.within.units c.args.access.now.element ≡ Some c.in_ok-unit.unit.now = sym c.in_ok-unit.ensures in
     passed sites unit c.args.start c.args.step.now c.args.access.now (record { start = c.in_ok-start.start; unit = c.in_ok-unit.unit })
     (ap (λ (count : Option ℕ). admits count c.args.step.now.index) (sym (c.count_of.ensures sites fits)) ∙ (sym c.admits.ensures ∙ c.if-not-admits.false))
     (sym (fits.inside.units_are c.args.access.now.element) ∙ ap (option_map inner_tree) found)

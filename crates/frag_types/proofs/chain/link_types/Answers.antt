@@ -1,5 +1,6 @@
 use Rattle.std.proofs.Common.{sym, ap, ◌∙◌, option_map}
-use Rattle.frag_sem.specs.ScriptTyping.{link_types}
+use Rattle.frag_sem.specs.ScriptTyping.{just, link_types, value_types}
+use Rattle.frag_sem.specs.Surfaces.{number}
 use Rattle.frag_sem.specs.TextSurface.{register_calls}
 use Rattle.frag_types.specs.Fields.{write_type}
 use Rattle.frag_types.specs.Refusals.{script_kind}
@@ -9,7 +10,9 @@ use Rattle.frag_types.proofs.chain.link_types.Goals as goal
 
 pub returns-in-Bits : goal.returns-in-Bits
 returns-in-Bits c =
-    c.value_types.ensures ∙ (link-bits (names_of c.args.names.now) c.args.unit.now c.in-Bits.value ∙ sym (ap (link_types (names_of c.args.names.now) (register_calls c.args.unit.now)) c.in-Bits.is))
+    c.value_types.ensures
+    ∙ (ap (λ width. value_types (names_of c.args.names.now) (just (number width)) c.in-Bits.value) c.word.ensures
+    ∙ (link-bits (names_of c.args.names.now) c.args.unit.now c.in-Bits.value ∙ sym (ap (link_types (names_of c.args.names.now) (register_calls c.args.unit.now)) c.in-Bits.is)))
 
 pub returns-in-Ok : goal.returns-in-Ok
 returns-in-Ok c =

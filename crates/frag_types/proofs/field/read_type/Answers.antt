@@ -12,12 +12,12 @@ use Rattle.frag_types.proofs.field.read_type.Goals as goal
 pub returns-in-Some-given : goal.returns-in-Some-given
 returns-in-Some-given c =
     read-gives c.args.unit.now c.args.field.now c.args.method.now c.in-Some.reader.now (Some (type_seen c.in-Some-given.found))
-    (sym (c.reader_named.ensures ∙ ap (λ name. find (λ reader. bytes_eq name reader.name) (readers_of c.args.unit.now)) c.bytes.ensures.same) ∙ ap (option_map (λ (reader : Bor Reader). reader.now)) c.in-Some.is)
+    (sym (c.reader.ensures ∙ ap (λ name. find (λ reader. bytes_eq name reader.name) (readers_of c.args.unit.now)) c.bytes.ensures.same) ∙ ap (option_map (λ (reader : Bor Reader). reader.now)) c.in-Some.is)
     (sym (c.index_fits.ensures ∙ ap (λ count. index_types count c.args.field.now.index) c.read_count.ensures) ∙ ap told_held c.in-Ok.is)
     (sym c.given.ensures ∙ ap (option_map type_seen) c.in-Some-given.is)
 
 pub returns-in-Err : goal.returns-in-Err
 returns-in-Err c =
     read-fails c.args.unit.now c.args.field.now c.args.method.now c.in-Some.reader.now (script_kind c.in-Err.kind)
-    (sym (c.reader_named.ensures ∙ ap (λ name. find (λ reader. bytes_eq name reader.name) (readers_of c.args.unit.now)) c.bytes.ensures.same) ∙ ap (option_map (λ (reader : Bor Reader). reader.now)) c.in-Some.is)
+    (sym (c.reader.ensures ∙ ap (λ name. find (λ reader. bytes_eq name reader.name) (readers_of c.args.unit.now)) c.bytes.ensures.same) ∙ ap (option_map (λ (reader : Bor Reader). reader.now)) c.in-Some.is)
     (sym (c.index_fits.ensures ∙ ap (λ count. index_types count c.args.field.now.index) c.read_count.ensures) ∙ ap told_held c.in-Err.is)

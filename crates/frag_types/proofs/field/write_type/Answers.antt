@@ -12,12 +12,12 @@ use Rattle.frag_types.proofs.field.write_type.Goals as goal
 pub returns-in-Some-taken : goal.returns-in-Some-taken
 returns-in-Some-taken c =
     write-takes c.args.unit.now c.args.field.now c.args.method.now c.in-Some.writer.now (Some ((option_map type_seen) c.in-Some-taken.found))
-    (sym (c.writer_named.ensures ∙ ap (λ name. find (λ writer. bytes_eq name writer.name) (writers_of c.args.unit.now)) c.bytes.ensures.same) ∙ ap (option_map (λ (writer : Bor Writer). writer.now)) c.in-Some.is)
+    (sym (c.writer.ensures ∙ ap (λ name. find (λ writer. bytes_eq name writer.name) (writers_of c.args.unit.now)) c.bytes.ensures.same) ∙ ap (option_map (λ (writer : Bor Writer). writer.now)) c.in-Some.is)
     (sym (c.index_fits.ensures ∙ ap (λ count. index_types count c.args.field.now.index) c.write_count.ensures) ∙ ap told_held c.in-Ok.is)
     (sym c.taken.ensures ∙ ap (option_map (option_map type_seen)) c.in-Some-taken.is)
 
 pub returns-in-Err : goal.returns-in-Err
 returns-in-Err c =
     write-fails c.args.unit.now c.args.field.now c.args.method.now c.in-Some.writer.now (script_kind c.in-Err.kind)
-    (sym (c.writer_named.ensures ∙ ap (λ name. find (λ writer. bytes_eq name writer.name) (writers_of c.args.unit.now)) c.bytes.ensures.same) ∙ ap (option_map (λ (writer : Bor Writer). writer.now)) c.in-Some.is)
+    (sym (c.writer.ensures ∙ ap (λ name. find (λ writer. bytes_eq name writer.name) (writers_of c.args.unit.now)) c.bytes.ensures.same) ∙ ap (option_map (λ (writer : Bor Writer). writer.now)) c.in-Some.is)
     (sym (c.index_fits.ensures ∙ ap (λ count. index_types count c.args.field.now.index) c.write_count.ensures) ∙ ap told_held c.in-Err.is)

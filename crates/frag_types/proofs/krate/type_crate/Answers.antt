@@ -1,6 +1,5 @@
 use Rattle.std.proofs.Common.{sym, ap, ◌∙◌, option_map, Some}
 use Rattle.frag_sem.proofs.Rules.{fits_by_tests, refused_by_tests}
-use Rattle.frag_rules.specs.declared.first.Broken.{Broken}
 use Rattle.frag_rules.specs.Rules.{rule_kind}
 use Rattle.frag_tree.specs.Trees.{crate_tree}
 use Rattle.frag_types.specs.Refusals.{crate_kind}

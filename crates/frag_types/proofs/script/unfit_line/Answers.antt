@@ -1,4 +1,4 @@
-use Rattle.std.proofs.Common.{◌≡◌, IfOk, ap, subst, option_map, Option}
+use Rattle.std.proofs.Common.{◌≡◌, IfOk, subst, option_map}
 use Rattle.frag_sem.specs.PlaceTyping.{module_fault}
 use Rattle.frag_tree.specs.declared.krate.Crate.{Crate}
 use Rattle.frag_tree.specs.Trees.{crate_tree}

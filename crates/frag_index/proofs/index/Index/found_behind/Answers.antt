@@ -1,4 +1,4 @@
-use Rattle.std.proofs.Common.{refl, sym, ap, ◌∙◌, subst, option_map, List, ℕ}
+use Rattle.std.proofs.Common.{refl, sym, ap, ◌∙◌, subst, option_map}
 use Rattle.std.specs.Borrow.{Bor}
 use Rattle.frag_sem.specs.PlaceTyping.{inner_named}
 use Rattle.frag_tree.specs.declared.block.Block.{Block}
@@ -11,7 +11,7 @@ use Rattle.frag_index.proofs.index.Index.found_behind.Goals as goal
 
 pub returns-in-Register : goal.returns-in-Register
 returns-in-Register c =
-    none-on-register c.args.self.now.tops.sites.items c.args.unit c.args.unit c.args.name.now (one_register c.in-Register.field-0.now) refl (ap inner_tree c.in-Register.is)
+    none-on-register c.args.self.now.tops.sites.items c.args.unit.now c.args.unit.now c.args.name.now (one_register c.in-Register.field-0) refl (ap inner_tree c.in-Register.is)
 
 pub returns-in-Some : goal.returns-in-Some
 returns-in-Some c =

@@ -1,4 +1,4 @@
-use Rattle.std.proofs.Common.{sym, ap, ◌∙◌, subst, map, List}
+use Rattle.std.proofs.Common.{ap, ◌∙◌, subst, map, List}
 use Rattle.frag_sem.specs.CallPlaces.{slot_named}
 use Rattle.frag_tree.specs.declared.block.Block.{Block}
 use Rattle.frag_tree.specs.Trees.{block_tree, crate_tree}

@@ -1,8 +1,0 @@
-use Rattle.std.proofs.Common.{sym, ◌∙◌, ap}
-use Rattle.std.specs.Map.{lookup}
-use Rattle.std.specs.Str.{bytes_eq}
-use Rattle.frag_eval.proofs.Entries.{found-entries}
-use Rattle.frag_eval.proofs.names.Bound.get.Goals as goal
-
-pub returns : goal.returns
-returns c = c.get.ensures.value ∙ (sym (found-entries c.args.name.now c.self.inside.held.entries) ∙ ap (lookup (bytes_eq c.args.name.now)) c.self.view_is)

@@ -1,0 +1,5 @@
+use Rattle.frag_sem.specs.ProxyTypes.{writer_type}
+use Rattle.frag_index.proofs.unit.Unit.write_truth.Goals as goal
+
+pub returns : goal.returns
+returns c = c.truth.ensures (writer_type c.args.writer.now) c.key_of_writer.ensures
