@@ -364,7 +364,7 @@ TIM3.sr().write(|w| w.uif().clear_bit());
 TIM2.ccr(1).write(|w| w.bits(0x1f4));
 ";
 
-const VENDOR_ROWS: [Row; 6] = [
+const VENDOR_ROWS: &[Row] = &[
     Row::Read(0x4000_0000, 16, 0),
     Row::Write(0x4000_0000, 16, 0x201),
     Row::Read(0x4000_0410, 32, 0),
@@ -389,7 +389,7 @@ fn gives_in_five<B: Bus>(ready: Ready, bus: &mut B) -> Result<bool, NoMemory> {
         stage = next;
     }
     match stage {
-        Stage::Done(events) => Ok(are_rows(&events, VENDOR_ROWS.as_slice())),
+        Stage::Done(events) => Ok(are_rows(&events, VENDOR_ROWS)),
         Stage::Running(_) => Ok(false),
     }
 }
