@@ -151,56 +151,68 @@ fn directions_refused(rt: HostRuntime) -> Result<(), Fail> {
     Ok(())
 }
 
-#[test]
-fn bus_fails_midway(rt: HostRuntime) -> Result<(), Fail> {
-    let text = gapped(&rt, "8")?;
-    let script = "let a = T.cr().read();\nlet b = T.cr().read();\nlet c = T.cr().read();";
+// Reads over a bus that fails at an access, with the lines of those before it.
+const MIDWAY: &[(&str, u64, &str, &str)] = &[
+    (
+        "let a = T.cr().read();\nlet b = T.cr().read();",
+        2,
+        "read 0x40000000 32 0x00000000\n",
+        "the bus failed after 1 events",
+    ),
+    (
+        "let a = T.cr().read();\nlet b = T.cr().read();\nlet c = T.cr().read();",
+        3,
+        "read 0x40000000 32 0x00000000\nread 0x40000000 32 0x00000000\n",
+        "the bus failed after 2 events",
+    ),
+];
+
+/// Runs a script against a crate text over a bus that fails at this access, and compares.
+fn fails(
+    rt: &(impl Abort + AllocGlobal),
+    files: MemFiles,
+    out: MemSink,
+    failing: u64,
+    wanted: &Wanted<'_>,
+) -> Result<(), Fail> {
     let mut bus = FailBus::new(rt.alloc());
-    bus.fail(3)?;
+    bus.fail(failing)?;
     let mut buses = Vec::new(rt.alloc());
     buses.push(BusSlot {
         kind: BusKind::Zero,
         bus,
     })?;
-    let files = files(&rt, text.as_str(), script)?;
-    let out = MemSink::new(rt.alloc());
-    let wanted = Wanted {
-        row: "the third access fails",
-        status: 5,
-        output: "read 0x40000000 32 0x00000000\nread 0x40000000 32 0x00000000\n",
-        fault: "the bus failed after 2 events",
-    };
-    call_over(
-        &rt,
-        &["exec", "x.rs", "x.script"],
-        files,
-        out,
-        buses,
-        &wanted,
-    )
+    call_over(rt, &["exec", "x.rs", "x.script"], files, out, buses, wanted)
+}
+
+#[test]
+fn bus_fails_midway(rt: HostRuntime) -> Result<(), Fail> {
+    let text = gapped(&rt, "8")?;
+    for &(script, failing, output, fault) in MIDWAY {
+        let wanted = Wanted {
+            row: fault,
+            status: 5,
+            output,
+            fault,
+        };
+        let files = files(&rt, text.as_str(), script)?;
+        fails(&rt, files, MemSink::new(rt.alloc()), failing, &wanted)?;
+    }
+    Ok(())
 }
 
 #[test]
 fn a_write_that_fails_behind_a_bus_that_failed(rt: HostRuntime) -> Result<(), Fail> {
     let text = gapped(&rt, "8")?;
-    let mut bus = FailBus::new(rt.alloc());
-    bus.fail(2)?;
-    let mut buses = Vec::new(rt.alloc());
-    buses.push(BusSlot {
-        kind: BusKind::Zero,
-        bus,
-    })?;
     let files = files(&rt, text.as_str(), "T.cr().reset();\nT.cr().reset();")?;
     let mut out = MemSink::new(rt.alloc());
     out.fail(1)?;
-    let wanted = refusal("the output fails too", 4, "cannot write");
-    call_over(
+    fails(
         &rt,
-        &["exec", "x.rs", "x.script"],
         files,
         out,
-        buses,
-        &wanted,
+        2,
+        &refusal("the output fails too", 4, "cannot write"),
     )
 }
 
