@@ -8,7 +8,6 @@ use Rattle.patch_form.specs.Demands.{each_key, element_demands, key_demands, pla
 use Rattle.patch_form.specs.Forms.{trimmed}
 use Rattle.patch_form.specs.Unmet.{AllMet}
 use Rattle.patch_form.specs.Words.{element_keys, key_kind}
-use Rattle.patch_form.specs.declared.form.Form.{Form}
 use Rattle.patch_form.specs.declared.form.Form.TheVariants.{Name}
 use Rattle.patch_form.specs.declared.form.KeyKind.{KeyKind}
 use Rattle.patch_form.specs.declared.form.KeyKind.TheVariants.{Used, Children, PassedOver}
@@ -28,6 +27,7 @@ new_front key value rest true is here more = λ name found. subst IsName (value_
   where
     hit : bytes_eq (codes "name") key ≡ true → lookup (bytes_eq (codes "name")) ((key, value) ∷ rest) ≡ Some value
     hit is = rw is refl
+
     value_is : (name : List ℕ) → Some value ≡ Some name → value ≡ name
     value_is name e = cc
 new_front key value rest false is here more = λ name found. more name (sym (passed is) ∙ found)

@@ -1,8 +1,6 @@
 -- The commands of a patch, in the order in which a mapping gives them.
-use Rattle.std.proofs.Common.{◌≡◌, ℕ, Bool, true, false, List, [], ◌∷◌, ◌++◌, Option, Some, None, codes, refl, sym, subst}
-use Rattle.std.specs.List.{AllByRecursion}
+use Rattle.std.proofs.Common.{ℕ, Bool, true, false, List, [], ◌∷◌, ◌++◌, Option, Some, None, codes, refl, sym, subst, if◌then◌else◌}
 use Rattle.glob_select.specs.Reading.{alternatives_of}
-use Rattle.patch_form.specs.Demands.{element_demands}
 use Rattle.patch_form.specs.Mappings.{command_demands, entry_demands, mapping_demands, modify_by, modify_entry, opened_demands, patch_demands}
 use Rattle.patch_form.specs.Parts.{entries_in}
 use Rattle.patch_form.specs.Unmet.{AllMet}
@@ -18,7 +16,6 @@ use Rattle.patch_model.proofs.Copying.{met_left, met_right}
 use Rattle.patch_model.proofs.HeldParts.{command_met, opened_met}
 use Rattle.patch_model.proofs.TextWords.{deeds_met}
 use Rattle.patch_model.specs.Acts.{Order, PatternItems}
-use Rattle.patch_model.specs.Answers.{AreOrders}
 use Rattle.patch_model.specs.Held.{EachDeed, command_part, deed_demands, opened_part}
 use Rattle.patch_model.specs.Orders.{entries_orders, entry_deed, entry_orders, is_word, item_orders, modify_at, modify_deed, opened_at, opened_orders, orders_at, orders_below, orders_of, own_orders, patch_orders, text_deed, text_order, texts_orders, word_orders}
 use Rattle.patch_ready.proofs.Apart.{under_apart}
@@ -51,9 +48,10 @@ deed_ready Array device line key tree unique met = tt
 
 each_ready : (word : Word) (device : Bool) (parents : List PatternItems) (before : List (List ℕ)) (named : EntryTrees) → AreUnique before named → EachDeed word device named → AreReady (entry_orders word device parents named)
 each_ready word device parents before no_entries unique met = tt
-each_ready word device parents before (entry line key tree others) unique met =
-    (deed_ready word device line key tree (value_unique before line key tree others unique) met.0,
-    each_ready word device parents (before ++ key ∷ []) others (others_unique before line key tree others unique) met.1)
+each_ready word device parents before (entry line key tree others) unique met = (
+  deed_ready word device line key tree (value_unique before line key tree others unique) met.0,
+  each_ready word device parents (before ++ key ∷ []) others (others_unique before line key tree others unique) met.1,
+)
 
 -- ---- texts, alone or in a list
 

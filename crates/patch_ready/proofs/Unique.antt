@@ -3,11 +3,11 @@ use Rattle.std.proofs.Common.{◌≡◌, ℕ, Bool, true, false, List, [], ◌�
 use Rattle.std.proofs.lemmas.List.Folds.{list_any-append}
 use Rattle.std.proofs.lemmas.Slice.Eq.{bytes_eq-Decides}
 use Rattle.std.specs.List.{list_any}
-use Rattle.std.specs.Prelude.{◌||◌}
+use Rattle.std.specs.Prelude.{◌||◌, if◌then◌else◌}
 use Rattle.std.specs.Str.{bytes_eq}
 use Rattle.patch_form.specs.Parts.{entries_in}
 use Rattle.yaml_block.specs.Nesting.{again, doubles_behind, doubles_in, first}
-use Rattle.yaml_block.specs.Trees.{Tree, EntryTrees, nothing, scalar, list, mapping}
+use Rattle.yaml_block.specs.Trees.{Tree, EntryTrees, nothing, scalar, list, mapping, entry}
 
 abbrev pub IsUnique : Tree → Type 0
 IsUnique tree = first (doubles_in tree) ≡ None
