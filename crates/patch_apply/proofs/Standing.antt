@@ -1,7 +1,6 @@
 -- How the commands that are left stand to all commands.
-use Rattle.std.proofs.Common.{◌≡◌, ◌⊎◌, ◌<◌, ◌≤◌, ℕ, suc, ◌+◌, List, [], ◌∷◌, map, length, drop, get_or, Result, Ok, Err, IsErrAnd, OnOk, inl, inr, refl, sym, ap, subst, ◌∙◌, add-one}
-use Rattle.std.proofs.Math.Seq.{drop-cons}
-use Rattle.std.proofs.lemmas.List.{drop_all}
+use Rattle.std.proofs.Common.{◌≡◌, ◌⊎◌, ◌<◌, ◌≤◌, ℕ, ◌+◌, List, ◌∷◌, map, length, drop, get_or, Result, Ok, Err, IsErrAnd, inl, inr, sym, ap, subst, ◌∙◌}
+use Rattle.std.proofs.lemmas.List.{drop_all, drop_more}
 use Rattle.patch_apply.specs.Applying.{IsPatched}
 use Rattle.patch_edits.specs.Commands.{IsApplied}
 use Rattle.patch_model.specs.Acts.{Order, order_of}
@@ -24,7 +23,7 @@ begun commands first here same ready = record { ready = ready; left = ap (patche
 -- the commands from a place on
 orders_from : (commands : List Command) (i : ℕ) (command : Command) → i < length commands → command ≡ get_or commands i command → map order_of (drop i commands) ≡ order_of command ∷ map order_of (drop (i + 1) commands)
 orders_from commands i command within is =
-    ap (map order_of) (rw add-one (drop-cons commands i command within ∙ ap (λ (one : Command). one ∷ drop (suc i) commands) (sym is)))
+    ap (map order_of) (drop_more commands i command within ∙ ap (λ (one : Command). one ∷ drop (i + 1) commands) (sym is))
 
 bound : (order : Order) (orders : List Order) (here : Rows) (outcome : Outcome Rows) → applied order here ≡ outcome → patched (order ∷ orders) here ≡ (outcome >>= patched orders)
 unfolding patched
