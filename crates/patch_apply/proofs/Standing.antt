@@ -2,7 +2,6 @@
 use Rattle.std.proofs.Common.{◌≡◌, ◌⊎◌, ◌<◌, ◌≤◌, ℕ, ◌+◌, List, ◌∷◌, map, length, drop, get_or, Result, Ok, Err, IsErrAnd, inl, inr, sym, ap, subst, ◌∙◌}
 use Rattle.std.proofs.lemmas.List.{drop_all, drop_more}
 use Rattle.patch_apply.specs.Applying.{IsPatched}
-use Rattle.patch_edits.specs.Commands.{IsApplied}
 use Rattle.patch_model.specs.Acts.{Order, order_of}
 use Rattle.patch_model.specs.declared.act.Command.{Command}
 use Rattle.patch_ready.specs.Ready.{AreReady}
@@ -16,9 +15,6 @@ use Rattle.patch_sem.specs.Steps.{Outcome, ◌>>=◌}
 pub record Standing (commands : List Command) (first : Rows) (i : ℕ) (here : Rows) : Type 0 where
   pub ready : AreReady (map order_of (drop i commands))
   pub left : patched (map order_of (drop i commands)) here ≡ patched (map order_of commands) first
-
-pub begun : (commands : List Command) (first here : Rows) → here ≡ first → AreReady (map order_of commands) → Standing commands first 0 here
-begun commands first here same ready = record { ready = ready; left = ap (patched (map order_of commands)) same }
 
 -- the commands from a place on
 orders_from : (commands : List Command) (i : ℕ) (command : Command) → i < length commands → command ≡ get_or commands i command → map order_of (drop i commands) ≡ order_of command ∷ map order_of (drop (i + 1) commands)

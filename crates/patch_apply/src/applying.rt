@@ -1,9 +1,8 @@
-ghost use Rattle.std.specs.Prelude.{◌≡◌, ◌⊎◌, IfErr, IfOk, Ok, Err, map};
-ghost use Rattle.patch_apply.specs.Applying.{IsPatched};
+ghost use Rattle.std.specs.Prelude.{◌≡◌, IfErr, IfOk, Ok, map};
+ghost use Rattle.patch_apply.specs.Applying.{IsFaultOf, IsPatched};
 ghost use Rattle.patch_edits.specs.Commands.{IsApplied};
 ghost use Rattle.patch_model.specs.Acts.{order_of};
 ghost use Rattle.patch_ready.specs.Ready.{AreReady, IsReadyDeed};
-ghost use Rattle.patch_sem.specs.declared.fault.PatchFault.TheVariants.{Memory};
 ghost use Rattle.patch_sem.specs.Patching.{patched};
 ghost use Rattle.svd_model.specs.Facts.{IsDescribed};
 ghost use Rattle.svd_model.specs.Trees.{device_rows};
@@ -46,11 +45,7 @@ fn one(alloc: Global, command: &Command, device: &mut Device) -> Result<(), Patc
 }
 
 // A copy of the device of a state, after all commands.
-fn applied(
-    alloc: Global,
-    state: &Described,
-    commands: &[Command],
-) -> Result<Device, PatchFault>
+fn applied(alloc: Global, state: &Described, commands: &[Command]) -> Result<Device, PatchFault>
     requires { AreReady (map order_of commands.now) }
     ensures described { IfOk result IsDescribed }
     ensures patched { IsPatched (map order_of commands.now) state.now device_rows result }
@@ -65,9 +60,9 @@ fn applied(
     Ok(device)
 }
 
-/// The state after the commands of a patch, each at each of its parents in turn (svdtools' patch documentation, narrowed). Where
-/// a command has a fault, that one, and where memory is wanting, `Memory`; the state is handed back then, equal to what was
-/// handed in. The condition on the commands is met by those that `commands` makes of a node of `read_block`.
+/// The state after the commands of a patch, each at each of its parents in turn (svdtools' patch documentation, narrowed).
+/// Where a command has a fault, the first, and where memory is wanting, `Memory`; the state then comes back equal to what was
+/// handed in. The commands have to be ready, as `patch_ready` says of those that a text spells.
 pub fn apply(
     alloc: Global,
     state: Described,
@@ -76,7 +71,7 @@ pub fn apply(
     requires { AreReady (map order_of commands.now) }
     ensures rows { IfOk result (λ made. patched (map order_of commands.now) state ≡ Ok made) }
     ensures kept { IfErr result (λ back. back.state ≡ state) }
-    ensures fault { IfErr result (λ back. (back.fault ≡ Memory) ⊎ (patched (map order_of commands.now) state ≡ Err back.fault)) }
+    ensures fault { IfErr result (λ back. IsFaultOf (map order_of commands.now) state back.fault) }
 {
     match applied(alloc, &state, commands.as_slice()) {
         Ok(device) => Ok(Patched::new(device)),
