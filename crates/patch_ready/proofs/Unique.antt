@@ -1,9 +1,10 @@
 -- Keys of which none comes twice in its mapping.
 use Rattle.std.proofs.Common.{◌≡◌, ℕ, Bool, true, false, List, [], ◌∷◌, ◌++◌, None, refl, sym, ◌∙◌}
+use Rattle.std.proofs.lemmas.Bool.{or_parts}
 use Rattle.std.proofs.lemmas.List.Folds.{list_any-append}
 use Rattle.std.proofs.lemmas.Slice.Eq.{bytes_eq-Decides}
 use Rattle.std.specs.List.{list_any}
-use Rattle.std.specs.Prelude.{◌||◌, if◌then◌else◌}
+use Rattle.std.specs.Prelude.{if◌then◌else◌}
 use Rattle.std.specs.Str.{bytes_eq}
 use Rattle.patch_form.specs.Parts.{entries_in}
 use Rattle.yaml_block.specs.Nesting.{again, doubles_behind, doubles_in, first}
@@ -52,21 +53,13 @@ inside_unique (mapping named) unique = unique
 abbrev pub IsAmong : List ℕ → List (List ℕ) → Type 0
 IsAmong name names = (test : List ℕ → Bool) → list_any test names ≡ false → test name ≡ false
 
-or_left : (a b : Bool) → (a || b) ≡ false → a ≡ false
-or_left true b none = none
-or_left false b none = refl
-
-or_right : (a b : Bool) → (a || b) ≡ false → b ≡ false
-or_right true b none = absurd cc
-or_right false b none = none
-
 pub among_last : (name : List ℕ) (names : List (List ℕ)) → IsAmong name (names ++ name ∷ [])
 among_last name names test none =
-    or_left (test name) false (or_right (list_any test names) (list_any test (name ∷ [])) (sym (list_any-append test names (name ∷ [])) ∙ none))
+    (or_parts (test name) false (or_parts (list_any test names) (list_any test (name ∷ [])) (sym (list_any-append test names (name ∷ [])) ∙ none)).1).0
 
 pub among_more : (name other : List ℕ) (names : List (List ℕ)) → IsAmong name names → IsAmong name (names ++ other ∷ [])
 among_more name other names among test none =
-    among test (or_left (list_any test names) (list_any test (other ∷ [])) (sym (list_any-append test names (other ∷ [])) ∙ none))
+    among test (or_parts (list_any test names) (list_any test (other ∷ [])) (sym (list_any-append test names (other ∷ [])) ∙ none)).0
 
 -- of two names neither is the other
 pub apart_back : (one other : List ℕ) → bytes_eq one other ≡ false → bytes_eq other one ≡ false
