@@ -5,7 +5,7 @@ use Rattle.frag_tree.specs.declared.event.Event.{Event}
 use Rattle.frag_tree.specs.declared.event.Event.TheVariants.{Read, Write, Say}
 use Rattle.frag_tree.specs.declared.event.Said.TheVariants.{Number}
 use Rattle.pac_base.specs.declared.width.Width.TheVariants.{W32, W64}
-use Rattle.pac_sample.specs.Description.{field_a, field_b, field_place, register_state, sample_peripheral, sample_register, sample_text}
+use Rattle.pac_sample.specs.Description.{field_a, field_b, field_place, register_state, reset_value, sample_peripheral, sample_register, sample_text}
 use Rattle.pac_sample.specs.Elements.{end_tag, start_tag}
 use Rattle.pac_sample.specs.Numbered.{peripherals_of, registers_of}
 use Rattle.pac_sample.specs.Script.{register_place, sample_script, script_line}
@@ -31,6 +31,20 @@ pub second_register :
     ++ codes "</fields></register>"))
 unfolding digits field_a field_b field_place register_state sample_register end_tag start_tag
 second_register = refl
+
+-- the third register of three
+pub third_register :
+    sample_register 0 2
+    ≡ codes "<register><name>R2</name><addressOffset>8</addressOffset><size>32</size><resetValue>81006</resetValue><fields>"
+    ++ (codes "<field><name>A</name><bitOffset>0</bitOffset><bitWidth>8</bitWidth><modifiedWriteValues>zeroToSet</modifiedWriteValues></field>"
+    ++ (codes "<field><name>B</name><bitOffset>8</bitOffset><bitWidth>4</bitWidth></field>"
+    ++ codes "</fields></register>"))
+unfolding digits field_a field_b field_place register_state sample_register end_tag start_tag
+third_register = refl
+
+-- a reset value passes 2^32
+pub reset_begins_again : reset_value 0xffffffffffffffff 1 ≡ 40502
+reset_begins_again = refl
 
 -- the script of one register, and the line of the first register in the second peripheral
 pub one_line : sample_script 1 ≡ codes "P0.r0().modify(|_, w| w.b().bits(1));\n"
