@@ -5,7 +5,7 @@ use Rattle.patch_sem.specs.Selecting.{is_patched}
 use Rattle.patch_sem.specs.Settings.{container_of, keys_set, keys_with}
 use Rattle.svd_model.specs.Facts.{IsElement, IsPlacedOrDerived}
 use Rattle.svd_model.specs.Keys.{Key}
-use Rattle.svd_model.specs.Steps.{Step}
+use Rattle.svd_model.specs.Steps.{Kind, Step}
 use Rattle.svd_rows.specs.Forest.{Tree}
 use Rattle.svd_schema.specs.declared.container.Container.{Container}
 
@@ -13,6 +13,11 @@ use Rattle.svd_schema.specs.declared.container.Container.{Container}
 pub record IsSet (held : Container) (texts : KeyList) (old new : Tree Step Key) : Type 0 where
   pub keys : new.keys ≡ keys_with (keys_set held texts) old.keys
   pub below : new.below ≡ old.below
+
+-- an element of a kind with the keys that the texts set in it
+abbrev pub with_set : KeyList → (Kind × Tree Step Key) → (Kind × Tree Step Key)
+with_set texts child =
+    (child.0, record { keys = keys_with (keys_set (container_of child.0) texts) child.1.keys; below = child.1.below })
 
 -- an element in which a patch sets keys is an element of a description
 abbrev pub SettingKeepsElements : Type 0

@@ -9,5 +9,8 @@ mod path;
 mod place;
 mod settings;
 
-pub use element::{set_cluster, set_device_keys, set_field, set_peripheral, set_register};
+pub use element::{
+    set_child, set_cluster, set_device_keys, set_field, set_peripheral, set_register,
+};
 pub use law::setting_law;
+pub use place::value_at;
