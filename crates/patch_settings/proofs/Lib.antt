@@ -7,3 +7,4 @@ pub mod MergedKeys
 pub mod Putting
 pub mod LookingUp
 pub mod Gathering
+pub mod Filled
