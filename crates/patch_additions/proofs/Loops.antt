@@ -4,16 +4,25 @@ use Rattle.std.specs.Option.{option_or}
 use Rattle.std.specs.Str.{bytes_eq}
 use Rattle.std.proofs.lemmas.List.{map-append}
 use Rattle.indexmap.specs.IndexMap.{insert_entry}
-use Rattle.patch_additions.specs.Additions.{built_tree, field_made, lack_of, put_field, put_fields, put_registers}
+use Rattle.patch_additions.specs.declared.addition.Unmade.{Unmade}
+use Rattle.patch_additions.specs.declared.addition.Unmade.TheVariants.{Lacks, Memory}
+use Rattle.patch_additions.specs.Additions.{IsUnmade, built_tree, field_made, key_text, lack_of, put_field, put_fields, put_registers}
 use Rattle.patch_edits.proofs.Passed.{join-leaf, join-one}
 use Rattle.patch_model.specs.Acts.{Added, AddedOne, added_of}
 use Rattle.patch_sem.specs.Additions.{first_missing, held_by, keys_made, needed}
 use Rattle.svd_model.proofs.Copies.{sibling_eq}
 use Rattle.svd_model.specs.declared.device.Field.{Field}
+use Rattle.svd_model.proofs.Trees.{child_tree-register, item_under-roll}
+use Rattle.svd_model.specs.declared.device.Child.{Child}
+use Rattle.svd_model.specs.declared.device.Child.TheOpen.{Item-F}
+use Rattle.svd_model.specs.declared.device.Child.TheVariants as children
+use Rattle.svd_model.specs.declared.device.Cluster.{Cluster as ClusterOf}
+use Rattle.svd_model.specs.declared.device.Item.{Item, roll-Item}
+use Rattle.svd_model.specs.declared.device.Register.{Register}
 use Rattle.svd_model.specs.declared.sibling.Sibling.{Sibling}
 use Rattle.svd_model.specs.Keys.{Key}
 use Rattle.svd_model.specs.Steps.{Kind, Step, register, field}
-use Rattle.svd_model.specs.Trees.{field_tree, field_under}
+use Rattle.svd_model.specs.Trees.{child_tree, field_tree, field_under, item_under, register_tree, step_of}
 use Rattle.svd_rows.specs.Forest.{Forest, Tree, join, leaf, node, siblings}
 
 -- what is left lacks what all lack
@@ -44,6 +53,11 @@ module _ (kind : Kind) (all : List AddedOne) (one : AddedOne) (rest left : List 
   lacks-here key some =
       same ∙ ap (λ (l : List AddedOne). first_missing kind (added_of l)) is
       ∙ lack-here (needed kind (keys_made kind one.keys)) (held_by kind None (first_missing register one.registers) (first_missing field one.fields)) (first_missing kind (added_of rest)) key some
+
+  -- why the first isn't made
+  pub lacks-why : (why : Unmade) → IsUnmade (lack_of kind one) why → IsUnmade (first_missing kind (added_of all)) why
+  lacks-why (Lacks key) lacks = lacks-here (key_text key) lacks
+  lacks-why Memory lacks = tt
 
 pub lacks-none : (kind : Kind) (all left : List AddedOne) → left ≡ [] → SameLack kind all left → first_missing kind (added_of all) ≡ None
 unfolding first_missing
@@ -107,3 +121,20 @@ module _ {A : Type 0} (seen : A → Step × Tree Step Key) where
   pub made-end : (all : List AddedOne) (made : List A) (left : List AddedOne) → left ≡ [] → MadeSoFar seen all made left → siblings (map seen made) ≡ put_registers (added_of all)
   unfolding put_registers
   made-end all made left is so_far = sym (so_far ∙ ap (λ (l : List AddedOne). join (siblings (map seen made)) (put_registers (added_of l))) is ∙ join-leaf (siblings (map seen made)))
+
+-- a register with its key, as an item
+pub register-item : (one : AddedOne) (key : Sibling) (made : Register) → (key.name ≡ one.name) × (key.number ≡ 0) → register_tree made ≡ built_tree register one → (item : Item-F Child ClusterOf Item) → item.key ≡ key → item.child ≡ children.Register made → item_under (roll-Item item) ≡ (record { kind = register; name = one.name; number = 0 }, built_tree register one)
+register-item one key made named tree item is_key is_child =
+    item_under-roll item
+    ∙ ap₂ (λ (k : Sibling) (t : Kind × Tree Step Key). (step_of t.0 k, t.1)) is_key (ap child_tree is_child ∙ child_tree-register made ∙ ap (λ (t : Tree Step Key). (register, t)) tree)
+    ∙ ap₂ (λ (name : List ℕ) (n : ℕ). (record { kind = register; name = name; number = n }, built_tree register one)) named.0 named.1
+
+-- ---- the invariants
+
+-- fields that are made, and additions that are left
+abbrev pub FieldsSoFar : List AddedOne → List (Sibling × Field) → List AddedOne → Type 0
+FieldsSoFar all made left = SameLack field all left × PutSoFar all made left
+
+-- registers that are made, and additions that are left
+abbrev pub RegistersSoFar : List AddedOne → List Item → List AddedOne → Type 0
+RegistersSoFar all made left = SameLack register all left × MadeSoFar item_under all made left

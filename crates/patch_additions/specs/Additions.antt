@@ -1,20 +1,27 @@
 -- What comes of an addition: the element, or the key that is missing.
-use Rattle.std.specs.Prelude.{◌≡◌, ◌⊎◌, Bool, false, cond, ◌&&◌, nat_eq, List, [], ◌∷◌, ℕ, codes, Option, None, Some, Result, Ok, MatchResult, ⊤}
+use Rattle.std.specs.Prelude.{◌≡◌, ◌⊎◌, cond, ◌&&◌, nat_eq, List, ◌∷◌, ℕ, codes, Option, None, Some, Result, Ok, MatchResult, Vec, map, ⊤}
 use Rattle.std.specs.Option.{option_or}
 use Rattle.std.specs.Str.{bytes_eq}
+use Rattle.std.specs.declared.hash.BuildHasherDefault.{BuildHasherDefault}
+use Rattle.std.specs.declared.hash.FoldHasher.{FoldHasher}
+use Rattle.indexmap.specs.IndexMap.{IndexMap}
 use Rattle.patch_additions.specs.declared.addition.Needed.{Needed}
 use Rattle.patch_additions.specs.declared.addition.Needed.TheVariants.{BaseAddress, AddressOffset, BitOffset}
 use Rattle.patch_additions.specs.declared.addition.Unmade.{Unmade}
 use Rattle.patch_additions.specs.declared.addition.Unmade.TheVariants.{Lacks, Memory}
-use Rattle.patch_growth.specs.Growths.{Growth}
 use Rattle.patch_edits.specs.Visits.{Below}
+use Rattle.patch_growth.specs.Growths.{Growth}
 use Rattle.patch_model.specs.Acts.{Added, AddedOne, KeyList, added, no_more}
 use Rattle.patch_sem.specs.declared.fault.PatchFault.{PatchFault}
 use Rattle.patch_sem.specs.declared.fault.PatchFault.TheVariants as faults
 use Rattle.patch_sem.specs.Additions.{first_missing, held_by, keys_made, made_in, needed, unless_missing}
+use Rattle.svd_model.specs.declared.device.Field.{Field}
+use Rattle.svd_model.specs.declared.device.Item.{Item}
+use Rattle.svd_model.specs.declared.sibling.Sibling.{Sibling}
 use Rattle.svd_model.specs.Keys.{Key}
 use Rattle.svd_model.specs.Steps.{Kind, Step, register, field}
-use Rattle.svd_rows.specs.Forest.{Tree, leaf, node}
+use Rattle.svd_model.specs.Trees.{field_under, item_under}
+use Rattle.svd_rows.specs.Forest.{Tree, leaf, node, siblings}
 
 -- the name of a key that must stand
 abbrev pub key_text : Needed → List ℕ
@@ -63,10 +70,16 @@ abbrev pub Builds : {A : Type 0} → (A → Tree Step Key) → Kind → AddedOne
 Builds seen kind one result =
     MatchResult result (λ made. (lack_of kind one ≡ None) × (seen made ≡ built_tree kind one)) (IsUnmade (lack_of kind one))
 
--- the same of elements side by side
+-- the same of elements side by side, each of them lacking nothing
 abbrev pub BuildsAll : {A : Type 0} → (A → Below) → Kind → Below → Added → Result A Unmade → Type 0
 BuildsAll seen kind built all result =
     MatchResult result (λ made. (first_missing kind all ≡ None) × (seen made ≡ built)) (IsUnmade (first_missing kind all))
+
+abbrev pub BuildsFields : Added → Result (IndexMap Sibling Field (BuildHasherDefault FoldHasher)) Unmade → Type 0
+BuildsFields all result = BuildsAll (λ made. siblings (map field_under made.entries)) field (put_fields all leaf) all result
+
+abbrev pub BuildsRegisters : Added → Result (Vec Item) Unmade → Type 0
+BuildsRegisters all result = BuildsAll (λ made. siblings (map item_under made.items)) register (put_registers all) all result
 
 abbrev pub built_child : ℕ → AddedOne → Growth
 built_child line one = record {

@@ -1,11 +1,13 @@
-ghost use Rattle.std.specs.Prelude.{◌≡◌, ◌⊎◌, IfOk, MatchResult, None, Some, map};
+ghost use Rattle.std.specs.Prelude.{◌≡◌, ◌⊎◌, [], ◌∷◌, IfOk, MatchResult, map};
+ghost use Rattle.patch_additions.specs.declared.addition.Unmade.TheVariants as unmade;
 ghost use Rattle.patch_edits.specs.Commands.{IsApplied, order_at};
-ghost use Rattle.patch_additions.specs.Additions.{Builds, BuildsAll, IsLacking, IsRefusal, built_child, key_text, put_fields, put_registers};
+ghost use Rattle.patch_additions.specs.Additions.{Builds, BuildsFields, BuildsRegisters, IsLacking, IsRefusal, built_child, key_text};
 ghost use Rattle.patch_model.specs.Acts.{addition_under, added_of, adds_one};
 ghost use Rattle.patch_ready.specs.Ready.{AreApart};
 ghost use Rattle.svd_model.specs.Facts.{IsDescribed};
+ghost use Rattle.svd_model.specs.Keys.{at_offset, base_address};
 ghost use Rattle.svd_model.specs.Steps.{peripheral, register, field};
-ghost use Rattle.svd_model.specs.Trees.{device_rows, item_under, field_tree, field_under, peripheral_tree, register_tree};
+ghost use Rattle.svd_model.specs.Trees.{device_rows, field_tree, field_under, item_under, peripheral_tree, register_tree};
 ghost use Rattle.svd_rows.specs.Forest.{leaf, siblings};
 
 use glob_select::Pattern;
@@ -35,7 +37,7 @@ enum Unmade {
 }
 
 impl From<NoMemory> for Unmade {
-    ghost from_gives = { λ _ fault. fault ≡ Unmade.Memory };
+    ghost from_gives = { λ _ fault. fault ≡ unmade.Memory };
 
     fn from(_error: NoMemory) -> Unmade {
         Unmade::Memory
@@ -43,36 +45,10 @@ impl From<NoMemory> for Unmade {
 }
 
 impl<T: Drop> From<AllocFailed<T>> for Unmade {
-    ghost from_gives = { λ _ fault. fault ≡ Unmade.Memory };
+    ghost from_gives = { λ _ fault. fault ≡ unmade.Memory };
 
     fn from(_error: AllocFailed<T>) -> Unmade {
         Unmade::Memory
-    }
-}
-
-fn no_dim() -> Dim
-    ensures count { result.count ≡ None }
-    ensures step { result.step ≡ None }
-    ensures index { result.index ≡ None }
-{
-    Dim {
-        count: None,
-        step: None,
-        index: None,
-    }
-}
-
-fn no_props() -> Props
-    ensures size { result.size ≡ None }
-    ensures access { result.access ≡ None }
-    ensures reset_value { result.reset_value ≡ None }
-    ensures reset_mask { result.reset_mask ≡ None }
-{
-    Props {
-        size: None,
-        access: None,
-        reset_value: None,
-        reset_mask: None,
     }
 }
 
@@ -85,13 +61,19 @@ fn key_of(alloc: Global, addition: &Addition) -> Result<Sibling, NoMemory>
     })
 }
 
-// A field with the keys of an addition.
-fn made_field(alloc: Global, addition: &Addition) -> Result<Field, Unmade>
-    ensures { Builds field_tree field (addition_under addition.now) result }
+// A field without keys.
+#[tactic(auto, unfolding(svd_model::specs::Trees::field_places, svd_rows::specs::Ranks::stated))]
+fn bare_field(alloc: Global) -> Field
+    ensures keys { (field_tree result).keys ≡ [] }
+    ensures below { (field_tree result).below ≡ leaf }
 {
-    let mut made = Field {
+    Field {
         derived: None,
-        dim: no_dim(),
+        dim: Dim {
+            count: None,
+            step: None,
+            index: None,
+        },
         place: Place {
             offset: None,
             width: None,
@@ -100,7 +82,14 @@ fn made_field(alloc: Global, addition: &Addition) -> Result<Field, Unmade>
         kind: None,
         action: None,
         values: Vec::new(alloc),
-    };
+    }
+}
+
+// A field with the keys of an addition.
+fn made_field(alloc: Global, addition: &Addition) -> Result<Field, Unmade>
+    ensures { Builds field_tree field (addition_under addition.now) result }
+{
+    let mut made = bare_field(alloc);
     set_field(alloc, addition.keys.as_slice(), &mut made)?;
     if made.place.offset.is_none() && made.derived.is_none() {
         return Err(Unmade::Lacks(Needed::BitOffset));
@@ -112,7 +101,7 @@ fn made_fields(
     alloc: Global,
     additions: &[Addition],
 ) -> Result<IndexMap<Sibling, Field>, Unmade>
-    ensures { BuildsAll (λ made. siblings (map field_under made.entries)) field (put_fields (added_of (map addition_under additions.now)) leaf) (added_of (map addition_under additions.now)) result }
+    ensures { BuildsFields (added_of (map addition_under additions.now)) result }
 {
     let mut made = IndexMap::new(alloc);
     for addition in additions {
@@ -123,6 +112,34 @@ fn made_fields(
     Ok(made)
 }
 
+// A register at 0, without other keys.
+#[tactic(auto, unfolding(svd_model::specs::Trees::register_places, svd_rows::specs::Ranks::stated))]
+fn bare_register(fields: IndexMap<Sibling, Field>) -> Register
+    ensures keys { (register_tree result).keys ≡ at_offset 0 ∷ [] }
+    ensures below { (register_tree result).below ≡ siblings (map field_under fields.entries) }
+{
+    Register {
+        derived: None,
+        dim: Dim {
+            count: None,
+            step: None,
+            index: None,
+        },
+        offset: 0,
+        alternate: None,
+        group: None,
+        props: Props {
+            size: None,
+            access: None,
+            reset_value: None,
+            reset_mask: None,
+        },
+        kind: None,
+        action: None,
+        fields,
+    }
+}
+
 // A register with the keys of an addition, and the fields within it.
 fn made_register(alloc: Global, addition: &Addition) -> Result<Register, Unmade>
     ensures { Builds register_tree register (addition_under addition.now) result }
@@ -131,23 +148,14 @@ fn made_register(alloc: Global, addition: &Addition) -> Result<Register, Unmade>
     if !sets_offset(alloc, keys)? {
         return Err(Unmade::Lacks(Needed::AddressOffset));
     }
-    let mut made = Register {
-        derived: None,
-        dim: no_dim(),
-        offset: 0,
-        alternate: None,
-        group: None,
-        props: no_props(),
-        kind: None,
-        action: None,
-        fields: made_fields(alloc, addition.fields.items.as_slice())?,
-    };
+    let fields = made_fields(alloc, addition.fields.items.as_slice())?;
+    let mut made = bare_register(fields);
     set_register(alloc, keys, &mut made)?;
     Ok(made)
 }
 
 fn made_registers(alloc: Global, additions: &[Addition]) -> Result<Vec<Item>, Unmade>
-    ensures { BuildsAll (λ made. siblings (map item_under made.items)) register (put_registers (added_of (map addition_under additions.now))) (added_of (map addition_under additions.now)) result }
+    ensures { BuildsRegisters (added_of (map addition_under additions.now)) result }
 {
     let mut made = Vec::new(alloc);
     for addition in additions {
@@ -158,6 +166,30 @@ fn made_registers(alloc: Global, additions: &[Addition]) -> Result<Vec<Item>, Un
     Ok(made)
 }
 
+// A peripheral at 0, without other keys.
+#[tactic(auto, unfolding(svd_model::specs::Trees::peripheral_places, svd_rows::specs::Ranks::stated))]
+fn bare_peripheral(children: Vec<Item>) -> Peripheral
+    ensures keys { (peripheral_tree result).keys ≡ base_address 0 ∷ [] }
+    ensures below { (peripheral_tree result).below ≡ siblings (map item_under children.items) }
+{
+    Peripheral {
+        derived: None,
+        dim: Dim {
+            count: None,
+            step: None,
+            index: None,
+        },
+        base: 0,
+        props: Props {
+            size: None,
+            access: None,
+            reset_value: None,
+            reset_mask: None,
+        },
+        children,
+    }
+}
+
 // A peripheral with the keys of an addition, and the registers within it.
 fn made_peripheral(alloc: Global, addition: &Addition) -> Result<Peripheral, Unmade>
     ensures { Builds peripheral_tree peripheral (addition_under addition.now) result }
@@ -166,13 +198,8 @@ fn made_peripheral(alloc: Global, addition: &Addition) -> Result<Peripheral, Unm
     if !sets_base(alloc, keys)? {
         return Err(Unmade::Lacks(Needed::BaseAddress));
     }
-    let mut made = Peripheral {
-        derived: None,
-        dim: no_dim(),
-        base: 0,
-        props: no_props(),
-        children: made_registers(alloc, addition.registers.items.as_slice())?,
-    };
+    let registers = made_registers(alloc, addition.registers.items.as_slice())?;
+    let mut made = bare_peripheral(registers);
     set_peripheral(alloc, keys, &mut made)?;
     Ok(made)
 }

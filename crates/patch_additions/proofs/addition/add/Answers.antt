@@ -15,14 +15,14 @@ pub returns-clause-applied : goal.returns-clause-applied
 unfolding device_tree device_places
 returns-clause-applied c =
     let f = siblings (map peripheral_under c.args.device.now.peripherals.entries) in
-    device-grown (built_child c.args.line (addition_under c.args.addition.now)) (stated (device_places c.args.device.now)) f (siblings (map peripheral_under c.walk.new.peripherals.entries)) c.elements.result c.walk.new.total
-    (peripherals-typed c.args.device.now.peripherals.entries) c.requires.described (told-whole c.elements.result (elements_in f) c.elements.ensures c.requires.described.few)
+    device-grown (built_child c.args.line (addition_under c.args.addition.now)) (stated (device_places c.args.device.now)) f (siblings (map peripheral_under c.walk.new.peripherals.entries)) c.elements-total.result c.walk.new.total
+    (peripherals-typed c.args.device.now.peripherals.entries) c.requires.described (told-whole c.elements-total.result (elements_in f) c.elements-total.ensures c.requires.described.few)
     (order_at c.args.line c.args.parents.now (adds_one (addition_under c.args.addition.now))) (built-agrees c.args.line (addition_under c.args.addition.now) c.requires.registers c.requires.fields c.args.parents.now) c.walk.result refl c.walk.ensures
 
 pub returns-clause-described : goal.returns-clause-described
 unfolding device_tree device_places
 returns-clause-described c =
     let f = siblings (map peripheral_under c.args.device.now.peripherals.entries) in
-    device-kept (built_child c.args.line (addition_under c.args.addition.now)) (stated (device_places c.args.device.now)) f (siblings (map peripheral_under c.walk.new.peripherals.entries)) c.elements.result c.walk.new.total
-    (peripherals-typed c.args.device.now.peripherals.entries) c.requires.described (told-whole c.elements.result (elements_in f) c.elements.ensures c.requires.described.few)
+    device-kept (built_child c.args.line (addition_under c.args.addition.now)) (stated (device_places c.args.device.now)) f (siblings (map peripheral_under c.walk.new.peripherals.entries)) c.elements-total.result c.walk.new.total
+    (peripherals-typed c.args.device.now.peripherals.entries) c.requires.described (told-whole c.elements-total.result (elements_in f) c.elements-total.ensures c.requires.described.few)
     (addition-sound c.args.line (addition_under c.args.addition.now) c.requires.registers c.requires.fields) c.args.parents.now c.walk.result c.walk.ensures
