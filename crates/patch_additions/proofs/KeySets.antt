@@ -1,5 +1,6 @@
 -- Which keys stand where keys were set one after the other, and that a key which is set again doesn't matter before.
-use Rattle.std.proofs.Common.{◌≡◌, ℕ, zero, suc, Bool, true, false, cond, ◌||◌, nat_eq, nat_lt, List, [], ◌∷◌, set, length, Option, Some, None, refl, sym, ap, ap₂, ◌∙◌, eqb-true}
+use Rattle.std.proofs.Common.{◌≡◌, ℕ, zero, suc, Bool, true, false, cond, ◌||◌, nat_eq, nat_lt, List, [], ◌∷◌, set, length, Option, Some, None, refl, sym, ap, ap₂, ◌∙◌, arith, eqb-true}
+use Rattle.std.proofs.lemmas.Bool.Decides.{nat_tests}
 use Rattle.std.proofs.lemmas.List.{set-set}
 use Rattle.std.specs.List.{list_any}
 use Rattle.patch_sem.specs.Settings.{keys_with}
@@ -98,7 +99,7 @@ keys_with-has n (key ∷ set) old =
     turn false true c = refl
     turn false false c = refl
 
-or-none : (b : Bool) → (b || false) ≡ b
+pub or-none : (b : Bool) → (b || false) ≡ b
 or-none true = refl
 or-none false = refl
 
@@ -108,12 +109,15 @@ made-has n set = keys_with-has n set [] ∙ or-none (list_any (of_rank n) set)
 
 -- ---- a key that is set again
 
+before : (i j : ℕ) → nat_eq (suc j) (suc i) ≡ false → nat_eq j i ≡ false
+before i j e = grind (arith, nat_tests, e)
+
 set-turn : (places : KeyPlaces) (i j : ℕ) (a b : Option Key) → nat_eq j i ≡ false → set (set places i a) j b ≡ set (set places j b) i a
 set-turn [] i j a b e = refl
 set-turn (first ∷ places) zero zero a b e = absurd cc
 set-turn (first ∷ places) zero (suc j) a b e = refl
 set-turn (first ∷ places) (suc i) zero a b e = refl
-set-turn (first ∷ places) (suc i) (suc j) a b e = ap (λ r. first ∷ r) (set-turn places i j a b e)
+set-turn (first ∷ places) (suc i) (suc j) a b e = ap (λ r. first ∷ r) (set-turn places i j a b (before i j e))
 
 again : (n : ℕ) (old : Option Key) (keys : List Key) (places : KeyPlaces) → list_any (of_rank n) keys ≡ true → placed keys (set places n old) ≡ placed keys places
 unfolding placed

@@ -13,16 +13,13 @@ use Rattle.patch_sem.specs.Additions.{first_missing, held_by, keys_made, needed}
 use Rattle.svd_model.proofs.Copies.{sibling_eq}
 use Rattle.svd_model.specs.declared.device.Field.{Field}
 use Rattle.svd_model.proofs.Trees.{child_tree-register, item_under-roll}
-use Rattle.svd_model.specs.declared.device.Child.{Child}
-use Rattle.svd_model.specs.declared.device.Child.TheOpen.{Item-F}
 use Rattle.svd_model.specs.declared.device.Child.TheVariants as children
-use Rattle.svd_model.specs.declared.device.Cluster.{Cluster as ClusterOf}
 use Rattle.svd_model.specs.declared.device.Item.{Item, roll-Item}
 use Rattle.svd_model.specs.declared.device.Register.{Register}
 use Rattle.svd_model.specs.declared.sibling.Sibling.{Sibling}
 use Rattle.svd_model.specs.Keys.{Key}
 use Rattle.svd_model.specs.Steps.{Kind, Step, register, field}
-use Rattle.svd_model.specs.Trees.{child_tree, field_tree, field_under, item_under, register_tree, step_of}
+use Rattle.svd_model.specs.Trees.{field_tree, field_under, item_under, register_tree, step_of}
 use Rattle.svd_rows.specs.Forest.{Forest, Tree, join, leaf, node, siblings}
 
 -- what is left lacks what all lack
@@ -123,10 +120,10 @@ module _ {A : Type 0} (seen : A → Step × Tree Step Key) where
   made-end all made left is so_far = sym (so_far ∙ ap (λ (l : List AddedOne). join (siblings (map seen made)) (put_registers (added_of l))) is ∙ join-leaf (siblings (map seen made)))
 
 -- a register with its key, as an item
-pub register-item : (one : AddedOne) (key : Sibling) (made : Register) → (key.name ≡ one.name) × (key.number ≡ 0) → register_tree made ≡ built_tree register one → (item : Item-F Child ClusterOf Item) → item.key ≡ key → item.child ≡ children.Register made → item_under (roll-Item item) ≡ (record { kind = register; name = one.name; number = 0 }, built_tree register one)
-register-item one key made named tree item is_key is_child =
-    item_under-roll item
-    ∙ ap₂ (λ (k : Sibling) (t : Kind × Tree Step Key). (step_of t.0 k, t.1)) is_key (ap child_tree is_child ∙ child_tree-register made ∙ ap (λ (t : Tree Step Key). (register, t)) tree)
+pub register-item : (one : AddedOne) (key : Sibling) (made : Register) → (key.name ≡ one.name) × (key.number ≡ 0) → register_tree made ≡ built_tree register one → item_under (roll-Item (record { key = key; child = children.Register made })) ≡ (record { kind = register; name = one.name; number = 0 }, built_tree register one)
+register-item one key made named tree =
+    item_under-roll (record { key = key; child = children.Register made })
+    ∙ ap (λ (t : Kind × Tree Step Key). (step_of t.0 key, t.1)) (child_tree-register made ∙ ap (λ (t : Tree Step Key). (register, t)) tree)
     ∙ ap₂ (λ (name : List ℕ) (n : ℕ). (record { kind = register; name = name; number = n }, built_tree register one)) named.0 named.1
 
 -- ---- the invariants

@@ -3,7 +3,7 @@ use Rattle.std.proofs.Common.{◌≡◌, ℕ, Bool, true, false, cond, ◌||◌,
 use Rattle.std.specs.Prelude.{if◌then◌else◌}
 use Rattle.std.specs.List.{list_any}
 use Rattle.std.specs.Option.{option_or}
-use Rattle.patch_additions.proofs.KeySets.{any-same, base-rank, made-has, of_rank, offset-rank, over-base, over-offset}
+use Rattle.patch_additions.proofs.KeySets.{any-same, base-rank, made-has, of_rank, or-none, offset-rank, over-base, over-offset}
 use Rattle.patch_additions.specs.Additions.{built_tree, key_text, lack_of, put_fields, put_registers}
 use Rattle.patch_additions.specs.declared.addition.Needed.TheVariants.{BaseAddress, AddressOffset, BitOffset}
 use Rattle.patch_model.specs.Acts.{AddedOne}
@@ -43,22 +43,50 @@ counts : {A : Type 0} (key : A → Key) (o : Option A) (rest : List (Option Key)
 counts key None rest is = refl
 counts key (Some a) rest is = ap (λ (b : Bool). b || list_any in_place rest) (is a)
 
--- where it has a source, or an offset
-pub field-says : (element : Field) → list_any says_where (stated (field_places element)) ≡ (is_some element.derived || (is_some element.place.offset || false))
-unfolding field_places
-field-says element =
-    any-stated (field_places element)
-    ∙ counts derived_from element.derived _ (λ a. refl)
-    ∙ ap (λ (b : Bool). is_some element.derived || b)
-    (passed dim_count element.dim.count _ (λ a. refl)
-    ∙ passed dim_increment element.dim.step _ (λ a. refl)
-    ∙ passed dim_index element.dim.index _ (λ a. refl)
-    ∙ counts at_offset element.place.offset _ (λ a. refl)
-    ∙ ap (λ (b : Bool). is_some element.place.offset || b)
-    (passed bit_width element.place.width _ (λ a. refl)
-    ∙ passed register_access element.access _ (λ a. refl)
-    ∙ passed write_kind element.kind _ (λ a. refl)
-    ∙ passed read_action element.action _ (λ a. refl)))
+-- ---- the places of a field, from some place on
+
+module _ (element : Field) where
+  abbrev from_action : List (Option Key)
+  from_action = option_map read_action element.action ∷ None ∷ None ∷ []
+
+  abbrev from_kind : List (Option Key)
+  from_kind = option_map write_kind element.kind ∷ from_action
+
+  abbrev from_access : List (Option Key)
+  from_access = option_map register_access element.access ∷ None ∷ None ∷ from_kind
+
+  abbrev from_width : List (Option Key)
+  from_width = option_map bit_width element.place.width ∷ None ∷ None ∷ None ∷ from_access
+
+  abbrev from_offset : List (Option Key)
+  from_offset = option_map at_offset element.place.offset ∷ from_width
+
+  abbrev from_index : List (Option Key)
+  from_index = option_map dim_index element.dim.index ∷ None ∷ from_offset
+
+  abbrev from_step : List (Option Key)
+  from_step = option_map dim_increment element.dim.step ∷ from_index
+
+  abbrev from_count : List (Option Key)
+  from_count = option_map dim_count element.dim.count ∷ from_step
+
+  -- where it has a source, or an offset
+  pub field-says : list_any says_where (stated (field_places element)) ≡ (is_some element.derived || is_some element.place.offset)
+  unfolding field_places
+  field-says =
+      any-stated (field_places element)
+      ∙ counts derived_from element.derived from_count (λ a. refl)
+      ∙ ap (λ (b : Bool). is_some element.derived || b)
+      (passed dim_count element.dim.count from_step (λ a. refl)
+      ∙ passed dim_increment element.dim.step from_index (λ a. refl)
+      ∙ passed dim_index element.dim.index (None ∷ from_offset) (λ a. refl)
+      ∙ counts at_offset element.place.offset from_width (λ a. refl)
+      ∙ ap (λ (b : Bool). is_some element.place.offset || b)
+      (passed bit_width element.place.width (None ∷ None ∷ None ∷ from_access) (λ a. refl)
+      ∙ passed register_access element.access (None ∷ None ∷ from_kind) (λ a. refl)
+      ∙ passed write_kind element.kind from_action (λ a. refl)
+      ∙ passed read_action element.action (None ∷ None ∷ []) (λ a. refl))
+      ∙ or-none (is_some element.place.offset))
 
 -- ---- what an element lacks
 
@@ -80,16 +108,16 @@ module _ (one : AddedOne) where
     field-keys : (field_tree made).keys ≡ keys_made field one.keys
     field-keys = set.keys ∙ ap (keys_with (keys_set container.Field one.keys)) empty
 
-    field-stands : list_any says_where (keys_made field one.keys) ≡ (is_some made.derived || (is_some made.place.offset || false))
+    field-stands : list_any says_where (keys_made field one.keys) ≡ (is_some made.derived || is_some made.place.offset)
     field-stands = ap (list_any says_where) (sym field-keys) ∙ field-says made
 
-    pub field-made : (is_some made.derived || (is_some made.place.offset || false)) ≡ true → (lack_of field one ≡ None) × (field_tree made ≡ built_tree field one)
+    pub field-made : (is_some made.derived || is_some made.place.offset) ≡ true → (lack_of field one ≡ None) × (field_tree made ≡ built_tree field one)
     field-made is = (
       ap (λ (lack : Option (List ℕ)). option_or lack None) (none_where (list_any says_where (keys_made field one.keys)) (codes "bitOffset") (field-stands ∙ is)),
       tree-is (field_tree made) (keys_made field one.keys) leaf field-keys (set.below ∙ bare),
     )
 
-    pub field-lacks : (is_some made.derived || (is_some made.place.offset || false)) ≡ false → lack_of field one ≡ Some (key_text BitOffset)
+    pub field-lacks : (is_some made.derived || is_some made.place.offset) ≡ false → lack_of field one ≡ Some (key_text BitOffset)
     field-lacks is = ap (λ (lack : Option (List ℕ)). option_or lack None) (some_where (list_any says_where (keys_made field one.keys)) (codes "bitOffset") (field-stands ∙ is))
 
   -- ---- registers

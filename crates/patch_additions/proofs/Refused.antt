@@ -1,20 +1,35 @@
 -- What the code makes, or why it doesn't, is what an addition comes to.
-use Rattle.std.proofs.Common.{◌≡◌, ◌⊎◌, ℕ, List, Option, Some, None, Ok, Err, refl, sym, ap, ◌∙◌, subst, inl, inr}
-use Rattle.patch_additions.specs.Additions.{IsRefusal, IsUnmade, built_tree, key_text, lack_of}
+use Rattle.std.proofs.Common.{◌≡◌, ◌⊎◌, ℕ, List, Option, None, Result, Ok, Err, IsErrAnd, Vec, sym, ap, ◌∙◌, subst, inl, inr}
+use Rattle.std.specs.declared.hash.BuildHasherDefault.{BuildHasherDefault}
+use Rattle.std.specs.declared.hash.FoldHasher.{FoldHasher}
+use Rattle.indexmap.specs.IndexMap.{IndexMap}
+use Rattle.patch_additions.specs.Additions.{Builds, BuildsFields, BuildsRegisters, IsRefusal, IsUnmade, built_tree, lack_of}
 use Rattle.patch_additions.specs.declared.addition.Unmade.{Unmade}
 use Rattle.patch_additions.specs.declared.addition.Unmade.TheVariants as unmade
-use Rattle.patch_model.specs.Acts.{AddedOne}
-use Rattle.patch_sem.specs.Additions.{unless_missing}
+use Rattle.patch_model.specs.Acts.{Added, AddedOne}
+use Rattle.patch_sem.specs.Additions.{first_missing, unless_missing}
 use Rattle.patch_sem.specs.declared.fault.PatchFault.{PatchFault}
 use Rattle.patch_sem.specs.declared.fault.PatchFault.TheVariants as faults
 use Rattle.patch_sem.specs.Steps.{Outcome}
+use Rattle.svd_model.specs.declared.device.Field.{Field}
+use Rattle.svd_model.specs.declared.device.Item.{Item}
+use Rattle.svd_model.specs.declared.sibling.Sibling.{Sibling}
 use Rattle.svd_model.specs.Keys.{Key}
-use Rattle.svd_model.specs.Steps.{Kind, Step}
+use Rattle.svd_model.specs.Steps.{Kind, Step, register, field}
 use Rattle.svd_rows.specs.Forest.{Tree}
 
--- memory was wanting
-pub for-memory : (lack : Option (List ℕ)) (why : Unmade) → why ≡ unmade.Memory → IsUnmade lack why
-for-memory lack why is = subst (IsUnmade lack) (sym is) tt
+-- what one part isn't made for, the whole isn't
+pub not-built : {A : Type 0} (seen : A → Tree Step Key) (kind : Kind) (one : AddedOne) (why : Unmade) (result : Result A Unmade) → IsErrAnd result (λ found. found ≡ why) → IsUnmade (lack_of kind one) why → Builds seen kind one result
+not-built seen kind one why (Ok made) is lacks = absurd is
+not-built seen kind one why (Err found) is lacks = subst (IsUnmade (lack_of kind one)) (sym is) lacks
+
+pub fields-not-built : (all : Added) (why : Unmade) (result : Result (IndexMap Sibling Field (BuildHasherDefault FoldHasher)) Unmade) → IsErrAnd result (λ found. found ≡ why) → IsUnmade (first_missing field all) why → BuildsFields all result
+fields-not-built all why (Ok made) is lacks = absurd is
+fields-not-built all why (Err found) is lacks = subst (IsUnmade (first_missing field all)) (sym is) lacks
+
+pub registers-not-built : {Z : Type 0} (all : Added) (why : Unmade) (result : Result (Vec Item Z) Unmade) → IsErrAnd result (λ found. found ≡ why) → IsUnmade (first_missing register all) why → BuildsRegisters all result
+registers-not-built all why (Ok made) is lacks = absurd is
+registers-not-built all why (Err found) is lacks = subst (IsUnmade (first_missing register all)) (sym is) lacks
 
 module _ (line : ℕ) (kind : Kind) (one : AddedOne) where
   abbrev made : Outcome (Kind × Tree Step Key)

@@ -78,7 +78,7 @@ BuildsAll seen kind built all result =
 abbrev pub BuildsFields : Added → Result (IndexMap Sibling Field (BuildHasherDefault FoldHasher)) Unmade → Type 0
 BuildsFields all result = BuildsAll (λ made. siblings (map field_under made.entries)) field (put_fields all leaf) all result
 
-abbrev pub BuildsRegisters : Added → Result (Vec Item) Unmade → Type 0
+abbrev pub BuildsRegisters : {Z : Type 0} → Added → Result (Vec Item Z) Unmade → Type 0
 BuildsRegisters all result = BuildsAll (λ made. siblings (map item_under made.items)) register (put_registers all) all result
 
 abbrev pub built_child : ℕ → AddedOne → Growth

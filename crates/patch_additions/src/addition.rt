@@ -1,4 +1,4 @@
-ghost use Rattle.std.specs.Prelude.{◌≡◌, ◌⊎◌, [], ◌∷◌, IfOk, MatchResult, map};
+ghost use Rattle.std.specs.Prelude.{◌≡◌, ◌⊎◌, ◌||◌, [], ◌∷◌, IfOk, MatchResult, is_some, map};
 ghost use Rattle.patch_additions.specs.declared.addition.Unmade.TheVariants as unmade;
 ghost use Rattle.patch_edits.specs.Commands.{IsApplied, order_at};
 ghost use Rattle.patch_additions.specs.Additions.{Builds, BuildsFields, BuildsRegisters, IsLacking, IsRefusal, built_child, key_text};
@@ -85,13 +85,20 @@ fn bare_field(alloc: Global) -> Field
     }
 }
 
+// Whether a field has an offset, or a source that may have one.
+fn is_placed(field: &Field) -> bool
+    ensures { result ≡ (is_some field.now.derived || is_some field.now.place.offset) }
+{
+    field.derived.is_some() || field.place.offset.is_some()
+}
+
 // A field with the keys of an addition.
 fn made_field(alloc: Global, addition: &Addition) -> Result<Field, Unmade>
     ensures { Builds field_tree field (addition_under addition.now) result }
 {
     let mut made = bare_field(alloc);
     set_field(alloc, addition.keys.as_slice(), &mut made)?;
-    if made.place.offset.is_none() && made.derived.is_none() {
+    if !is_placed(&made) {
         return Err(Unmade::Lacks(Needed::BitOffset));
     }
     Ok(made)
