@@ -1,5 +1,5 @@
 -- An addition in the tree is the addition among the rows.
-use Rattle.std.proofs.Common.{◌≡◌, ℕ, Bool, true, false, List, [], ◌∷◌, ◌++◌, map, codes, Option, Some, None, Ok, Err, refl, sym, ap, ap₂, ◌∙◌, append_assoc}
+use Rattle.std.proofs.Common.{◌≡◌, ℕ, Bool, true, false, List, [], ◌++◌, map, Option, Some, None, Ok, refl, sym, ap, ap₂, ◌∙◌, append_assoc}
 use Rattle.std.specs.List.{list_any}
 use Rattle.patch_model.specs.Acts.{Added, AddedOne, PatternItems, added, adds_one, no_more}
 use Rattle.patch_sem.specs.declared.fault.PatchFault.TheVariants.{AddExists}
@@ -10,17 +10,14 @@ use Rattle.patch_sem.specs.Steps.{Outcome, ◌>>=◌, refused_if}
 use Rattle.patch_edits.proofs.Contexts.{tree_with}
 use Rattle.patch_edits.specs.Commands.{order_at}
 use Rattle.patch_edits.specs.Visits.{Below}
-use Rattle.patch_growth.proofs.Typed.{IsTyped, holds_at}
 use Rattle.patch_growth.proofs.Walks.{Agrees}
 use Rattle.patch_additions.specs.Made.{adds_child, made_forest, made_tree}
 use Rattle.patch_growth.specs.Growths.{Growth, child_named, new_child, put_new}
 use Rattle.svd_model.specs.Keys.{Key}
-use Rattle.svd_model.specs.Steps.{Kind, Step, peripheral, cluster, register, field, set, value, same_step}
+use Rattle.svd_model.specs.Steps.{Kind, Step, peripheral, cluster, register, field, set, value}
 use Rattle.svd_rows.proofs.LookUps.{children_of-rows}
 use Rattle.svd_rows.proofs.Rows.{forest_rows-join}
-use Rattle.svd_rows.specs.Elements.{IsDistinct}
-use Rattle.svd_rows.specs.Forest.{join, leaf, node, steps}
-use Rattle.svd_rows.specs.LookUps.{children_of}
+use Rattle.svd_rows.specs.Forest.{join, leaf, steps}
 use Rattle.svd_rows.specs.Rows.{forest_rows, own, rows, under}
 
 -- the rows of what an element holds

@@ -1,34 +1,32 @@
 -- What is added, where no key is missing and names are their own, is part of a description.
-use Rattle.std.proofs.Common.{◌≡◌, ℕ, ◌^◌, Bool, true, false, ◌&&◌, ◌||◌, nat_eq, List, [], ◌∷◌, Option, Some, None, Ok, Err, refl, sym, ap, ap₂, ◌∙◌, subst}
+use Rattle.std.proofs.Common.{◌≡◌, ℕ, ◌^◌, Bool, true, false, ◌&&◌, ◌||◌, nat_eq, List, [], Option, Some, None, Ok, Err, refl, sym, ap, ◌∙◌, subst}
 use Rattle.std.specs.Prelude.{if◌then◌else◌}
 use Rattle.std.specs.List.{AllByRecursion, list_any}
 use Rattle.std.specs.Option.{option_or}
-use Rattle.std.specs.Str.{bytes_eq}
 use Rattle.patch_model.specs.Acts.{Added, AddedOne, KeyList, PatternItems, added, adds_one, no_more}
 use Rattle.patch_sem.specs.declared.fault.PatchFault.TheVariants.{AddExists, Incomplete}
 use Rattle.patch_sem.specs.Additions.{first_missing, held_by, keys_made, made_in, needed, unless_missing}
 use Rattle.patch_sem.specs.Selecting.{is_named, is_patched}
-use Rattle.patch_sem.specs.Settings.{container_of, keys_set, keys_with}
+use Rattle.patch_sem.specs.Settings.{container_of, keys_set}
 use Rattle.patch_sem.specs.Steps.{Outcome, ◌>>=◌, refused_if}
 use Rattle.patch_edits.specs.Commands.{order_at}
-use Rattle.patch_edits.specs.Visits.{Below}
 use Rattle.patch_additions.proofs.Adding.{addition-agrees}
-use Rattle.patch_additions.proofs.Built.{built-adds, built-is, lack-is}
+use Rattle.patch_additions.proofs.Built.{built-adds, built-is}
 use Rattle.patch_growth.proofs.Sound.{Fine, IsSound, IsSoundChild, MakesSound}
 use Rattle.patch_growth.proofs.Typed.{holds_at}
 use Rattle.patch_growth.proofs.Walks.{Agrees}
 use Rattle.patch_additions.specs.Additions.{built_child, built_tree, lack_of}
 use Rattle.patch_ready.specs.Ready.{AreApart, IsNew}
-use Rattle.patch_additions.specs.Made.{made_forest, made_tree}
+use Rattle.patch_additions.specs.Made.{made_forest}
 use Rattle.patch_growth.specs.Growths.{but_in_field, child_named, put_new}
 use Rattle.patch_settings.proofs.KeyForms.{keys_set-good}
-use Rattle.patch_settings.proofs.Keeping.{bounded-of, indexed-of, keys_with-all, set_at, setting-keeps}
+use Rattle.patch_settings.proofs.Keeping.{bounded-of, indexed-of, keys_with-all, set_at}
 use Rattle.patch_settings.specs.Places.{fitting}
 use Rattle.svd_model.specs.Facts.{HasForm, IsBounded, IsIndexed, IsPlacedOrDerived, is_derived, is_offset}
 use Rattle.svd_model.specs.Keys.{Key}
 use Rattle.svd_model.specs.Steps.{Kind, Step, peripheral, cluster, register, field, set, value, same_key}
-use Rattle.svd_rows.specs.Elements.{Every, IsAbsent, IsDistinct}
-use Rattle.svd_rows.specs.Forest.{Tree, join, leaf, node, steps}
+use Rattle.svd_rows.specs.Elements.{Every, IsDistinct}
+use Rattle.svd_rows.specs.Forest.{Tree, join, leaf, steps}
 use Rattle.svd_rows.specs.Rows.{rows}
 
 -- ---- nothing is missing

@@ -1,21 +1,18 @@
 -- What an addition makes by code is what it adds, where names are their own; and an addition is sound.
-use Rattle.std.proofs.Common.{◌≡◌, ℕ, Bool, true, false, cond, ◌&&◌, ◌||◌, nat_eq, List, [], ◌∷◌, ◌++◌, map, Option, Some, None, Ok, Err, refl, sym, ap, ap₂, ◌∙◌, subst}
+use Rattle.std.proofs.Common.{◌≡◌, ℕ, Bool, true, false, cond, ◌&&◌, nat_eq, List, Option, Some, None, Ok, refl, sym, ap, ap₂, ◌∙◌}
 use Rattle.std.specs.Prelude.{⊤}
 use Rattle.std.specs.Cmp.Lexicographic.{bytes_decides}
-use Rattle.std.specs.List.{AllByRecursion}
 use Rattle.std.specs.Option.{option_or}
 use Rattle.std.specs.Str.{bytes_eq}
-use Rattle.patch_model.specs.Acts.{Added, AddedOne, KeyList, added, no_more}
+use Rattle.patch_model.specs.Acts.{Added, AddedOne, added, no_more}
 use Rattle.patch_sem.specs.Additions.{first_missing, held_by, keys_made, made_in, needed, unless_missing}
-use Rattle.patch_sem.specs.Steps.{Outcome}
 use Rattle.patch_edits.proofs.Passed.{join-leaf}
 use Rattle.patch_edits.specs.Visits.{Below}
 use Rattle.patch_additions.specs.Additions.{built_child, built_tree, field_made, lack_of, put_field, put_fields, put_registers}
 use Rattle.patch_ready.specs.Ready.{AreApart, IsNew}
 use Rattle.patch_additions.specs.Made.{adds_child, made_forest, made_tree}
-use Rattle.patch_growth.specs.Growths.{Growth}
 use Rattle.svd_model.specs.Keys.{Key}
-use Rattle.svd_model.specs.Steps.{Kind, Step, peripheral, cluster, register, field, set, value}
+use Rattle.svd_model.specs.Steps.{Kind, Step, register, field}
 use Rattle.svd_rows.specs.Forest.{Tree, join, leaf, node}
 
 -- none of the fields has the name

@@ -1,14 +1,14 @@
 -- Elements that are made one after the other.
-use Rattle.std.proofs.Common.{◌≡◌, ℕ, ◌+◌, Bool, true, false, cond, ◌&&◌, nat_eq, List, [], ◌∷◌, ◌++◌, map, drop, length, Option, Some, None, refl, sym, ap, ap₂, ◌∙◌}
+use Rattle.std.proofs.Common.{◌≡◌, ℕ, ◌+◌, Bool, true, false, cond, ◌&&◌, nat_eq, List, [], ◌∷◌, ◌++◌, map, Option, Some, None, refl, sym, ap, ap₂, ◌∙◌}
 use Rattle.std.specs.Option.{option_or}
 use Rattle.std.specs.Str.{bytes_eq}
 use Rattle.std.proofs.lemmas.List.{map-append}
 use Rattle.indexmap.specs.IndexMap.{insert_entry}
 use Rattle.patch_additions.specs.declared.addition.Unmade.{Unmade}
 use Rattle.patch_additions.specs.declared.addition.Unmade.TheVariants.{Lacks, Memory}
-use Rattle.patch_additions.specs.Additions.{IsUnmade, built_tree, field_made, key_text, lack_of, put_field, put_fields, put_registers}
+use Rattle.patch_additions.specs.Additions.{IsUnmade, built_tree, key_text, lack_of, put_field, put_fields, put_registers}
 use Rattle.patch_edits.proofs.Passed.{join-leaf, join-one}
-use Rattle.patch_model.specs.Acts.{Added, AddedOne, added_of}
+use Rattle.patch_model.specs.Acts.{AddedOne, added_of}
 use Rattle.patch_sem.specs.Additions.{first_missing, held_by, keys_made, needed}
 use Rattle.svd_model.proofs.Copies.{sibling_eq}
 use Rattle.svd_model.specs.declared.device.Field.{Field}
@@ -20,7 +20,7 @@ use Rattle.svd_model.specs.declared.sibling.Sibling.{Sibling}
 use Rattle.svd_model.specs.Keys.{Key}
 use Rattle.svd_model.specs.Steps.{Kind, Step, register, field}
 use Rattle.svd_model.specs.Trees.{field_tree, field_under, item_under, register_tree, step_of}
-use Rattle.svd_rows.specs.Forest.{Forest, Tree, join, leaf, node, siblings}
+use Rattle.svd_rows.specs.Forest.{Tree, join, leaf, node, siblings}
 
 -- what is left lacks what all lack
 abbrev pub SameLack : Kind → List AddedOne → List AddedOne → Type 0

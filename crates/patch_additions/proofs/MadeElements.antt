@@ -1,5 +1,5 @@
 -- Elements that are made with the keys of an addition: what they lack, and their trees.
-use Rattle.std.proofs.Common.{◌≡◌, ℕ, Bool, true, false, cond, ◌||◌, List, [], ◌∷◌, ◌++◌, codes, Option, Some, None, option_map, is_some, refl, sym, ap, ap₂, ◌∙◌}
+use Rattle.std.proofs.Common.{◌≡◌, ℕ, Bool, true, false, ◌||◌, List, [], ◌∷◌, codes, Option, Some, None, option_map, is_some, refl, sym, ap, ap₂, ◌∙◌}
 use Rattle.std.specs.Prelude.{if◌then◌else◌}
 use Rattle.std.specs.List.{list_any}
 use Rattle.std.specs.Option.{option_or}
@@ -7,7 +7,7 @@ use Rattle.patch_additions.proofs.KeySets.{any-same, base-rank, made-has, of_ran
 use Rattle.patch_additions.specs.Additions.{built_tree, key_text, lack_of, put_fields, put_registers}
 use Rattle.patch_additions.specs.declared.addition.Needed.TheVariants.{BaseAddress, AddressOffset, BitOffset}
 use Rattle.patch_model.specs.Acts.{AddedOne}
-use Rattle.patch_sem.specs.Additions.{first_missing, is_base, keys_made, needed}
+use Rattle.patch_sem.specs.Additions.{first_missing, is_base, keys_made}
 use Rattle.patch_sem.specs.Settings.{keys_set, keys_with}
 use Rattle.patch_settings.specs.Setting.{IsSet, sets_rank}
 use Rattle.svd_model.specs.declared.device.Peripheral.{Peripheral}
@@ -16,7 +16,7 @@ use Rattle.svd_schema.specs.declared.container.Container.TheVariants as containe
 use Rattle.svd_model.specs.declared.device.Field.{Field}
 use Rattle.svd_model.specs.Facts.{is_derived, is_offset}
 use Rattle.svd_model.specs.Keys.{Key, derived_from, dim_count, dim_increment, dim_index, base_address, at_offset, bit_width, register_access, write_kind, read_action}
-use Rattle.svd_model.specs.Steps.{Kind, Step, peripheral, register, field}
+use Rattle.svd_model.specs.Steps.{Step, peripheral, register, field}
 use Rattle.svd_model.specs.Trees.{field_places, field_tree, peripheral_tree, register_tree}
 use Rattle.svd_rows.specs.Forest.{Forest, Tree, leaf}
 use Rattle.svd_rows.specs.Ranks.{stated}

@@ -1,10 +1,10 @@
 -- The parts of an element that is added, as its declared type has them.
-use Rattle.std.proofs.Common.{◌≡◌, ℕ, List, map, ap, ◌∙◌}
+use Rattle.std.proofs.Common.{◌≡◌, List, map, ap, ◌∙◌}
 use Rattle.patch_model.proofs.Adding.{additions_under-is}
-use Rattle.patch_model.specs.Acts.{Added, AddedOne, KeyList, added_of, addition_layer, addition_under, additions_layer, additions_under}
+use Rattle.patch_model.specs.Acts.{AddedOne, added_of, addition_layer, addition_under, additions_layer, additions_under}
 use Rattle.patch_model.specs.declared.act.Addition.{Addition, out-Addition}
 use Rattle.patch_model.specs.declared.act.Addition.TheFolds.{fold_out-Addition}
-use Rattle.patch_model.specs.declared.act.Additions.{Additions, out-Additions}
+use Rattle.patch_model.specs.declared.act.Additions.{out-Additions}
 
 addition-is : (addition : Addition) → addition_under addition ≡ record { name = (out-Addition addition).name; keys = (out-Addition addition).keys; registers = added_of (additions_under (out-Addition addition).registers); fields = added_of (additions_under (out-Addition addition).fields) }
 unfolding addition_under additions_under

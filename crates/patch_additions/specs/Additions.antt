@@ -1,5 +1,5 @@
 -- What comes of an addition: the element, or the key that is missing.
-use Rattle.std.specs.Prelude.{◌≡◌, ◌⊎◌, cond, ◌&&◌, nat_eq, List, ◌∷◌, ℕ, codes, Option, None, Some, Result, Ok, MatchResult, Vec, map, ⊤}
+use Rattle.std.specs.Prelude.{◌≡◌, ◌⊎◌, cond, ◌&&◌, nat_eq, List, ℕ, codes, Option, None, Some, Result, Ok, MatchResult, Vec, map, ⊤}
 use Rattle.std.specs.Option.{option_or}
 use Rattle.std.specs.Str.{bytes_eq}
 use Rattle.std.specs.declared.hash.BuildHasherDefault.{BuildHasherDefault}

@@ -1,15 +1,12 @@
 -- An addition in the tree: the child that it makes in an element.
-use Rattle.std.specs.Prelude.{◌≡◌, ◌⊎◌, ℕ, Bool, cond, List, [], ◌∷◌, Option, None, Some, Ok, Err}
-use Rattle.patch_model.specs.Acts.{Added, AddedOne, KeyList, no_more, added}
+use Rattle.std.specs.Prelude.{ℕ, Ok}
+use Rattle.patch_model.specs.Acts.{Added, AddedOne, no_more, added}
 use Rattle.patch_sem.specs.Additions.{first_missing, held_by, keys_made, made_in, unless_missing}
-use Rattle.patch_sem.specs.Selecting.{is_named}
-use Rattle.patch_sem.specs.Settings.{container_of, keys_set, keys_with}
-use Rattle.patch_sem.specs.Steps.{Outcome}
 use Rattle.patch_edits.specs.Visits.{Below}
 use Rattle.patch_growth.specs.Growths.{Growth}
 use Rattle.svd_model.specs.Keys.{Key}
 use Rattle.svd_model.specs.Steps.{Kind, Step, register, field}
-use Rattle.svd_rows.specs.Forest.{Forest, Tree, leaf, node}
+use Rattle.svd_rows.specs.Forest.{Tree, leaf, node}
 
 -- elements that are made side by side, with those within each
 unfoldable pub made_forest : Kind → Added → Below

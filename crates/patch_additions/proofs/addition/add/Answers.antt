@@ -1,4 +1,4 @@
-use Rattle.std.proofs.Common.{map, refl, ◌∙◌}
+use Rattle.std.proofs.Common.{map, refl}
 use Rattle.patch_model.specs.Acts.{addition_under, adds_one}
 use Rattle.patch_edits.specs.Commands.{order_at}
 use Rattle.patch_growth.proofs.Applying.{device-grown, device-kept, told-whole}

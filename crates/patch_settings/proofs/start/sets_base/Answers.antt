@@ -9,6 +9,7 @@ use Rattle.patch_settings.proofs.start.sets_base.Goals as goal
 pub returns : goal.returns
 unfolding places
 returns c =
-    stated-filled base_address c.in_ok-of.settings.base
-    ∙ ap (λ (all : KeyPlaces). filled all 5) c.in_ok-of.ensures
+    c.is_some.ensures
+    ∙ stated-filled base_address c.in_ok-settings.settings.base
+    ∙ ap (λ (all : KeyPlaces). filled all 5) c.in_ok-settings.ensures
     ∙ sets-filled 5 (keys_set container.Peripheral c.args.keys.now) refl

@@ -9,6 +9,7 @@ use Rattle.patch_settings.proofs.start.sets_offset.Goals as goal
 pub returns : goal.returns
 unfolding places
 returns c =
-    stated-filled at_offset c.in_ok-of.settings.place.offset
-    ∙ ap (λ (all : KeyPlaces). filled all 6) c.in_ok-of.ensures
+    c.is_some.ensures
+    ∙ stated-filled at_offset c.in_ok-settings.settings.place.offset
+    ∙ ap (λ (all : KeyPlaces). filled all 6) c.in_ok-settings.ensures
     ∙ sets-filled 6 (keys_set container.Register c.args.keys.now) refl
