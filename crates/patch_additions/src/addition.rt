@@ -104,10 +104,7 @@ fn made_field(alloc: Global, addition: &Addition) -> Result<Field, Unmade>
     Ok(made)
 }
 
-fn made_fields(
-    alloc: Global,
-    additions: &[Addition],
-) -> Result<IndexMap<Sibling, Field>, Unmade>
+fn made_fields(alloc: Global, additions: &[Addition]) -> Result<IndexMap<Sibling, Field>, Unmade>
     ensures { BuildsFields (added_of (map addition_under additions.now)) result }
 {
     let mut made = IndexMap::new(alloc);

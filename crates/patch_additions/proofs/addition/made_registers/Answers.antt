@@ -21,8 +21,7 @@ loop-addition-preserved c =
     let left = map addition_under (drop c.loop-addition.addition-index c.args.additions.now) in
     let rest = map addition_under (drop (c.loop-addition.addition-index + 1) c.args.additions.now) in
     let is = ap (map addition_under) (from_place c.args.additions.now c.loop-addition.addition-index c.addition-item.result c.loop-addition-test.true c.addition-item.is) in
-    let made = c.in_ok-made_register.field-0 in
-    (
+    let made = c.in_ok-made_register.field-0 in (
       lacks-more register all one rest left is c.loop-addition.invariant.0 c.in_ok-made_register.ensures.0,
       subst (λ items. MadeSoFar item_under all items rest) (sym c.in_ok-push.ensures.items)
           (made-more item_under all c.loop-addition.made.items one rest left (roll-Item (record { key = c.in_ok-key.key; child = children.Register made })) is (register-item one c.in_ok-key.key made c.in_ok-key.ensures c.in_ok-made_register.ensures.1) c.loop-addition.invariant.1),
