@@ -8,3 +8,4 @@ pub mod Putting
 pub mod LookingUp
 pub mod Gathering
 pub mod ChildKeys
+pub mod Filled
