@@ -1,20 +1,26 @@
 -- A step that a description can hold is told exactly, so what the code does at each parent is the array.
-use Rattle.std.proofs.Common.{◌≡◌, ℕ, ◌<◌, ◌≤◌, ◌^◌, ◌-◌, min, List, [], ◌∷◌, map, filter, length, Option, None, Some, Ok, refl, sym, ap, ◌∙◌, subst, arith}
+use Rattle.std.proofs.Common.{◌≡◌, ℕ, ◌<◌, ◌^◌, Bool, List, [], ◌∷◌, map, filter, length, Option, None, Some, Result, Ok, refl, sym, ap, subst, arith}
 use Rattle.std.specs.List.{AllByRecursion}
-use Rattle.patch_edits.specs.Visits.{Below}
+use Rattle.patch_edits.specs.Edits.{Edited}
+use Rattle.patch_edits.specs.Visits.{Below, visited}
 use Rattle.patch_model.specs.Acts.{PatternItems}
 use Rattle.patch_sem.specs.Arrays.{first_step, first_uneven, unless_uneven, unless_unlike}
 use Rattle.patch_sem.specs.Copying.{renamed_step}
+use Rattle.patch_sem.specs.declared.fault.PatchFault.{PatchFault}
 use Rattle.patch_sem.specs.declared.fault.PatchFault.TheVariants.{AddExists}
-use Rattle.patch_sem.specs.Steps.{refused_if, unless_none}
+use Rattle.patch_sem.specs.Steps.{Outcome, refused_if, unless_none}
+use Rattle.patch_arrays.proofs.Bridging.{visited-same}
 use Rattle.patch_arrays.proofs.Each.{each_kept, each_so}
 use Rattle.patch_arrays.proofs.Elements.{siblings-elements}
-use Rattle.patch_arrays.proofs.Near.{IsNear}
+use Rattle.patch_arrays.proofs.Near.{IsNear, near-every, peripherals-start}
 use Rattle.patch_arrays.proofs.Ordering.{all_ordered}
 use Rattle.patch_arrays.specs.Arranging.{Element, arranged, array_of, arrayed_below, arraying_in, dimmed, elements, exact, first_differing, is_member, is_taken, offset_of, placed_step}
 use Rattle.patch_arrays.specs.Makings.{capped}
-use Rattle.svd_model.specs.Keys.{Key}
-use Rattle.svd_model.specs.Steps.{Kind, peripheral, cluster, register, field, set, value}
+use Rattle.svd_model.specs.declared.device.Peripheral.{Peripheral}
+use Rattle.svd_model.specs.declared.sibling.Sibling.{Sibling}
+use Rattle.svd_model.specs.Facts.{IsElement, IsPlacedOrDerived}
+use Rattle.svd_model.specs.Steps.{Kind, Step, peripheral, cluster, register, field, set, value}
+use Rattle.svd_model.specs.Trees.{peripheral_under}
 use Rattle.svd_rows.proofs.Siblings.{Every-each}
 use Rattle.svd_rows.specs.Elements.{Every}
 use Rattle.svd_rows.specs.Forest.{siblings}
@@ -55,3 +61,13 @@ module _ (line : ℕ) (pattern : PatternItems) (name : List ℕ) where
   arrayed-capped (Some field) f h = refl
   arrayed-capped (Some set) f h = arraying-capped (elements f) (near-each f h)
   arrayed-capped (Some value) f h = arraying-capped (elements f) (near-each f h)
+
+-- what a walk at a description leaves is what the array is
+pub walk-exact : (line : ℕ) (pattern : PatternItems) (name : List ℕ) (tests : List (Step → Bool)) (entries : List (Sibling × Peripheral)) (new : Below) (result : Result (Unit {0}) PatchFault)
+    → Every (IsElement IsPlacedOrDerived) (siblings (map peripheral_under entries))
+    → Edited (visited (arrayed_below capped line pattern name) tests None (siblings (map peripheral_under entries))) new result
+    → Edited (visited (arrayed_below exact line pattern name) tests None (siblings (map peripheral_under entries))) new result
+walk-exact line pattern name tests entries new result every edited =
+    subst (λ (outcome : Outcome Below). Edited outcome new result)
+    (visited-same IsNear (arrayed_below capped line pattern name) (arrayed_below exact line pattern name) (arrayed-capped line pattern name) tests None (siblings (map peripheral_under entries)) (near-every (siblings (map peripheral_under entries)) every (peripherals-start entries)))
+    edited

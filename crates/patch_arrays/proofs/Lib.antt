@@ -20,3 +20,5 @@ pub mod Arranged
 pub mod Checked
 pub mod Refilled
 pub mod Same
+pub mod Edits
+pub mod Kinds

@@ -1,5 +1,5 @@
 -- Patches know the kind of each child of a peripheral or cluster.
-use Rattle.std.specs.Prelude.{◌≡◌, true, refl, sym, ap, subst}
+use Rattle.std.proofs.Common.{◌≡◌, true, sym, ap, subst}
 use Rattle.patch_sem.specs.Selecting.{is_patched}
 use Rattle.svd_model.specs.declared.device.Child.{Child, map-Child, roll-Child}
 use Rattle.svd_model.specs.declared.device.Child.TheVariants.{rolls-Cluster, rolls-Register}

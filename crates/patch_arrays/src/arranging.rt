@@ -57,37 +57,39 @@ fn exists(alloc: Global, line: u32, name: &Name) -> PatchFault
 // The children with the array in the place of those that become its members.
 fn arrange<M: Member>(
     alloc: Global,
-    arraying: Arraying<'_>,
+    line: u32,
+    pattern: &Pattern,
+    name: &Name,
     children: Vec<(Sibling, M)>,
 ) -> Result<Vec<(Sibling, M)>, PatchFault>
-    ensures arranged { Arranges M.seen (arraying_in capped arraying.line arraying.pattern.now arraying.name.now (map (under_key M.seen) children.items)) result }
+    ensures arranged { Arranges M.seen (arraying_in capped line pattern.now name.now (map (under_key M.seen) children.items)) result }
     ensures distinct { IfOk result (λ made. AreDistinct sibling_eq (map entry_key children.items) → AreDistinct sibling_eq (map entry_key made.items)) }
 {
-    let Ok(parted) = part(alloc, arraying.pattern, children) else {
+    let Ok(parted) = part(alloc, pattern, children) else {
         return Err(PatchFault::Memory);
     };
     if parted.members.is_empty() {
-        return Err(PatchFault::NoMatch {
-            line: arraying.line,
-        });
+        return Err(PatchFault::NoMatch { line });
     }
-    if has_name(arraying.name, parted.others.as_slice()) {
-        return Err(exists(alloc, arraying.line, arraying.name));
+    if has_name(name, parted.others.as_slice()) {
+        return Err(exists(alloc, line, name));
     }
-    arrange_parted(alloc, arraying.line, arraying.name, parted)
+    arrange_parted(alloc, line, name, parted)
 }
 
 fn arrange_map<M: Member>(
     alloc: Global,
-    arraying: Arraying<'_>,
+    line: u32,
+    pattern: &Pattern,
+    name: &Name,
     entries: &mut IndexMap<Sibling, M>,
 ) -> Result<(), PatchFault>
-    ensures { Edited (arraying_in capped arraying.line arraying.pattern.now arraying.name.now (map (under_key M.seen) entries.old.entries)) (siblings (map (under_key M.seen) entries.new.entries)) result }
+    ensures { Edited (arraying_in capped line pattern.now name.now (map (under_key M.seen) entries.old.entries)) (siblings (map (under_key M.seen) entries.new.entries)) result }
 {
     let Ok(children) = entries_of(alloc, entries) else {
         return Err(PatchFault::Memory);
     };
-    let made = arrange(alloc, arraying, children)?;
+    let made = arrange(alloc, line, pattern, name, children)?;
     let Ok(_) = put_back(alloc, entries, made) else {
         return Err(PatchFault::Memory);
     };
@@ -96,15 +98,17 @@ fn arrange_map<M: Member>(
 
 fn arrange_items(
     alloc: Global,
-    arraying: Arraying<'_>,
+    line: u32,
+    pattern: &Pattern,
+    name: &Name,
     items: &mut Vec<Item>,
 ) -> Result<(), PatchFault>
-    ensures { Edited (arraying_in capped arraying.line arraying.pattern.now arraying.name.now (map item_under items.old.items)) (siblings (map item_under items.new.items)) result }
+    ensures { Edited (arraying_in capped line pattern.now name.now (map item_under items.old.items)) (siblings (map item_under items.new.items)) result }
 {
     let Ok(children) = children_of(alloc, items) else {
         return Err(PatchFault::Memory);
     };
-    let made = arrange(alloc, arraying, children)?;
+    let made = arrange(alloc, line, pattern, name, children)?;
     let Ok(new) = items_of(alloc, made) else {
         return Err(PatchFault::Memory);
     };
@@ -120,11 +124,11 @@ impl<'a> Edit for Arraying<'a> {
         alloc: Global,
         peripherals: &mut IndexMap<Sibling, Peripheral>,
     ) -> Result<(), PatchFault> {
-        arrange_map(alloc, *self, peripherals)
+        arrange_map(alloc, self.line, self.pattern, self.name, peripherals)
     }
 
     fn items(&self, alloc: Global, items: &mut Vec<Item>) -> Result<(), PatchFault> {
-        arrange_items(alloc, *self, items)
+        arrange_items(alloc, self.line, self.pattern, self.name, items)
     }
 
     fn fields(
@@ -132,7 +136,7 @@ impl<'a> Edit for Arraying<'a> {
         alloc: Global,
         fields: &mut IndexMap<Sibling, Field>,
     ) -> Result<(), PatchFault> {
-        arrange_map(alloc, *self, fields)
+        arrange_map(alloc, self.line, self.pattern, self.name, fields)
     }
 
     #[tactic(auto, unfolding(crate::specs::Arranging::arrayed_below))]
@@ -154,7 +158,7 @@ pub fn array(
     name: &Name,
     device: &mut Device,
 ) -> Result<(), PatchFault>
-    requires described { IsDescribed device.old }
+    requires { IsDescribed device.old }
     ensures applied { IsApplied (order_at line parents.now (arrays pattern.now name.now)) (device_rows device.old) (device_rows device.new) result }
     ensures described { IfOk result (λ done. IsDescribed device.new) }
 {

@@ -13,13 +13,13 @@ use svd_model::{Child, Item, Sibling};
 /// Takes the entries out of a map.
 pub(crate) fn entries_of<V: Drop>(
     alloc: Global,
-    map: &mut IndexMap<Sibling, V>,
+    children: &mut IndexMap<Sibling, V>,
 ) -> Result<Vec<(Sibling, V)>, NoMemory>
-    ensures same { IfOk result (λ entries. entries.items ≡ map.old.entries) }
+    ensures same { IfOk result (λ entries. entries.items ≡ children.old.entries) }
     ensures distinct { IfOk result (λ entries. AreDistinct sibling_eq (map entry_key entries.items)) }
 {
-    let mut entries = Vec::with_capacity(alloc, map.len())?;
-    let old = mem::replace(map, IndexMap::new(alloc));
+    let mut entries = Vec::with_capacity(alloc, children.len())?;
+    let old = mem::replace(children, IndexMap::new(alloc));
     for entry in old {
         entries.push(entry)?;
     }
@@ -29,17 +29,17 @@ pub(crate) fn entries_of<V: Drop>(
 /// Puts entries into a map, of which no two have one key.
 pub(crate) fn put_back<V: Drop>(
     alloc: Global,
-    map: &mut IndexMap<Sibling, V>,
+    children: &mut IndexMap<Sibling, V>,
     entries: Vec<(Sibling, V)>,
 ) -> Result<(), NoMemory>
     requires { AreDistinct sibling_eq (map entry_key entries.items) }
-    ensures { OnOk result (map.new.entries ≡ entries.items) }
+    ensures { OnOk result (children.new.entries ≡ entries.items) }
 {
     let mut made = IndexMap::with_capacity(alloc, entries.len())?;
     for (key, value) in entries {
         made.insert(key, value)?;
     }
-    *map = made;
+    *children = made;
     Ok(())
 }
 

@@ -1,0 +1,6 @@
+-- What is put in, and what is left, come to all.
+use Rattle.std.proofs.Common.{◌≡◌, ◌++◌}
+use Rattle.patch_arrays.proofs.shelf.put_back.Given as goal
+
+abbrev pub invariant-loop-key : goal.invariant-loop-key
+invariant-loop-key g l = l.made.entries ++ l.key-iterator ≡ l.fn.entries.items
