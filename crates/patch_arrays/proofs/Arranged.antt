@@ -140,7 +140,7 @@ module _ {M : Type 0} (seen : M → Seen) (known : (one : M) → is_patched (see
     order = ordered_by offset_of (map under parted.members.items)
 
     -- what comes to, by what is parted
-    outcome : Outcome Below
+    abbrev outcome : Outcome Below
     outcome =
         unless_none line (map under parted.members.items)
         (refused_if (list_any has_name parted.others.items) (AddExists line name)
@@ -199,12 +199,12 @@ module _ {M : Type 0} (seen : M → Seen) (known : (one : M) → is_patched (see
 
           apart-each : (entries : List Entry) → list_any has_name (filter (λ x. not (test x)) entries) ≡ false → AllByRecursion (λ entry. test entry ≡ false → IsApart entry) entries
           apart-each [] none = tt
-          apart-each (entry ∷ entries) none = cases (test entry) refl none
+          apart-each (entry ∷ entries) none = cases (test entry) refl (apart-each entries) none
             where
-              cases : (b : Bool) → test entry ≡ b → list_any has_name (cond (not b) (entry ∷ filter (λ x. not (test x)) entries) (filter (λ x. not (test x)) entries)) ≡ false → AllByRecursion (λ x. test x ≡ false → IsApart x) (entry ∷ entries)
-              cases true e left = ((λ f. absurd (no_both (test entry) e f)), apart-each entries left)
-              cases false e left =
-                  let parts = or_parts (has_name entry) (list_any has_name (filter (λ x. not (test x)) entries)) left in ((λ f. apart-one entry parts.0), apart-each entries parts.1)
+              cases : (b : Bool) → test entry ≡ b → (list_any has_name (filter (λ x. not (test x)) entries) ≡ false → AllByRecursion (λ x. test x ≡ false → IsApart x) entries) → list_any has_name (cond (not b) (entry ∷ filter (λ x. not (test x)) entries) (filter (λ x. not (test x)) entries)) ≡ false → AllByRecursion (λ x. test x ≡ false → IsApart x) (entry ∷ entries)
+              cases true e more left = ((λ f. absurd (no_both (test entry) e f)), more left)
+              cases false e more left =
+                  let parts = or_parts (has_name entry) (list_any has_name (filter (λ x. not (test x)) entries)) left in ((λ f. apart-one entry parts.0), more parts.1)
 
           pub made-distinct : AreDistinct sibling_eq (map entry_key children) → AreDistinct sibling_eq (map entry_key made)
           made-distinct distinct =

@@ -1,5 +1,5 @@
 -- Members and steps that are set among the keys of an element, where an element states `dim`, and where it starts.
-use Rattle.std.proofs.Common.{◌≡◌, ℕ, ◌+◌, ◌<◌, Bool, true, false, cond, not, nat_eq, nat_lt, ◌||◌, List, [], ◌∷◌, filter, length, set, Option, Some, None, option_and_then, refl, sym, ap, ap₂, ◌∙◌, arith, is_some, map, unwrap_or, lt-ltb, le-ltb, eq-eqb, ne_eqb, inl, inr}
+use Rattle.std.proofs.Common.{◌≡◌, ℕ, ◌+◌, ◌*◌, ◌<◌, Bool, true, false, cond, not, nat_eq, nat_lt, ◌||◌, List, [], ◌∷◌, filter, length, set, Option, Some, None, option_and_then, refl, sym, ap, ap₂, ◌∙◌, arith, is_some, map, unwrap_or, lt-ltb, le-ltb, eq-eqb, ne_eqb, inl, inr}
 use Rattle.std.specs.List.{AllByRecursion, list_any}
 use Rattle.patch_edits.specs.Visits.{Below}
 use Rattle.patch_arrays.proofs.Told.{placed-with, tree_at}
@@ -15,14 +15,14 @@ use Rattle.svd_rows.specs.RowEdits.{added, some_pass}
 use Rattle.svd_rows.specs.Ranks.{IsPlaced, IsRanked, set_key, stated}
 
 module _ (key : Key) where
-  is_lower : Key → Bool
+  abbrev is_lower : Key → Bool
   is_lower other = nat_lt (rank other) (rank key)
 
-  isnt_it : Key → Bool
+  abbrev isnt_it : Key → Bool
   isnt_it other = not (nat_eq (rank other) (rank key))
 
   -- behind those of lower rank
-  behind_lower : List Key → List Key
+  abbrev behind_lower : List Key → List Key
   behind_lower others = cond (some_pass is_lower others) (added is_lower (key ∷ []) others) (key ∷ others)
 
   none_lower : (keys : List Key) → AllByRecursion (λ later. rank key < rank later) keys → some_pass is_lower keys ≡ false
@@ -95,7 +95,7 @@ put-set : (key : Key) (keys : List Key) → IsRanked rank keys → put_key key k
 unfolding put_key
 put-set key keys ranked = put-ranked key keys ranked
 
-put-stated : (key : Key) (places : List (Option Key)) (n : ℕ) → IsPlaced rank 0 places → n < length places → rank key ≡ n → put_key key (stated places) ≡ stated (set places n (Some key))
+put-stated : (key : Key) (places : List (Option Key)) (n : ℕ) → IsPlaced rank 0 places → n < length places → rank key ≡ 0 + n → put_key key (stated places) ≡ stated (set places n (Some key))
 put-stated key places n placed within e =
     put-set key (stated places) (stated-ranked rank 0 places placed) ∙ sym (stated-set rank 0 key places n placed within e)
 
@@ -157,7 +157,8 @@ offset-with base offset one = found stated_offset 6 other-offset (places_with ba
 
 pub start-with : (base offset : Option ℕ) (one : Unplaced) → start_of (stated (places_with base offset one)) None ≡ unwrap_or base 0 + unwrap_or offset 0
 start-with base offset one =
-    ap₂ (λ (b o : Option ℕ). unwrap_or b 0 + unwrap_or o 0 + 0) (base-with base offset one) (offset-with base offset one) ∙ plain (unwrap_or base 0) (unwrap_or offset 0)
+    ap₂ (λ (b o : Option ℕ). unwrap_or b 0 + unwrap_or o 0 + 0 * unwrap_or (value_of stated_increment (stated (places_with base offset one))) 0) (base-with base offset one) (offset-with base offset one)
+    ∙ plain (unwrap_or base 0) (unwrap_or offset 0) (unwrap_or (value_of stated_increment (stated (places_with base offset one))) 0)
   where
-    plain : (a b : ℕ) → a + b + 0 ≡ a + b
-    plain a b = omega arith
+    plain : (a b c : ℕ) → a + b + 0 * c ≡ a + b
+    plain a b c = omega arith

@@ -1,5 +1,5 @@
 -- Where the elements of a description start, as its numbers hold it.
-use Rattle.std.proofs.Common.{◌≡◌, ℕ, ◌+◌, ◌<◌, ◌^◌, List, [], ◌∷◌, map, Option, Some, None, unwrap_or, sym, ap, subst, arith, inl, inr, ◌⊎◌}
+use Rattle.std.proofs.Common.{◌≡◌, ℕ, ◌+◌, ◌<◌, ◌^◌, List, [], ◌∷◌, map, Option, Some, None, unwrap_or, sym, ap, ◌∙◌, subst, arith, inl, inr, ◌⊎◌}
 use Rattle.std.specs.List.{AllByRecursion}
 use Rattle.patch_edits.specs.Visits.{Below}
 use Rattle.patch_arrays.proofs.Dimmed.{base-with, offset-with}

@@ -17,11 +17,18 @@ module _ {A : Type 0} (same : A → A → Bool) where
   abbrev pub SameFrom : List A → List A → ℕ → Type 0
   SameFrom xs ys n = pointwise same (drop n xs) (drop n ys) ≡ pointwise same xs ys
 
+  next_one : (xs ys : List A) (n : ℕ) (d : A) → n < length xs → n < length ys → pointwise same (drop n xs) (drop n ys) ≡ (same (get_or xs n d) (get_or ys n d) && pointwise same (drop (suc n) xs) (drop (suc n) ys))
+  next_one [] ys n d a b = absurd (omega (arith, a))
+  next_one (x ∷ xs) [] n d a b = absurd (omega (arith, b))
+  next_one (x ∷ xs) (y ∷ ys) zero d a b = refl
+  next_one (x ∷ xs) (y ∷ ys) (suc n) d a b = next_one xs ys n d (omega (arith, a)) (omega (arith, b))
+
   one_more : (xs ys : List A) (n : ℕ) (d : A) → n < length xs → n < length ys → pointwise same (drop n xs) (drop n ys) ≡ (same (get_or xs n d) (get_or ys n d) && pointwise same (drop (n + 1) xs) (drop (n + 1) ys))
-  one_more [] ys n d a b = absurd (omega (arith, a))
-  one_more (x ∷ xs) [] n d a b = absurd (omega (arith, b))
-  one_more (x ∷ xs) (y ∷ ys) zero d a b = refl
-  one_more (x ∷ xs) (y ∷ ys) (suc n) d a b = one_more xs ys n d (omega (arith, a)) (omega (arith, b))
+  one_more xs ys n d a b =
+      next_one xs ys n d a b ∙ ap (λ (m : ℕ). same (get_or xs n d) (get_or ys n d) && pointwise same (drop m xs) (drop m ys)) (after n)
+    where
+      after : (m : ℕ) → suc m ≡ m + 1
+      after m = omega arith
 
   pub same-step : (xs ys : List A) (n : ℕ) (d x y : A) → n < length xs → n < length ys → get_or xs n d ≡ x → get_or ys n d ≡ y → same x y ≡ true → SameFrom xs ys n → SameFrom xs ys (n + 1)
   same-step xs ys n d x y a b is also e so_far =

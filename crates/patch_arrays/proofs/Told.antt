@@ -218,11 +218,11 @@ from_place low first [] le h = tt
 from_place low first (None ∷ places) le h = from_place low (first + 1) places (omega (arith, le)) h
 from_place low first (Some key ∷ places) le h = (omega (arith, le, h.0), from_place low (first + 1) places (omega (arith, le)) h.1)
 
-first_or : Key → List Key → Key
+abbrev first_or : Key → List Key → Key
 first_or key [] = key
 first_or key (x ∷ xs) = x
 
-rest_of : List Key → List Key
+abbrev rest_of : List Key → List Key
 rest_of [] = []
 rest_of (x ∷ xs) = xs
 
@@ -244,23 +244,23 @@ stated-equal first (Some key ∷ one) (Some twin ∷ other) long h k e =
 
 -- ---- what the places tell
 
-stated_path : Key → Option (List Written)
+abbrev stated_path : Key → Option (List Written)
 stated_path (derived_from path) = Some path
 stated_path _ = None
 
-stated_index : Key → Option DimIndex
+abbrev stated_index : Key → Option DimIndex
 stated_index (dim_index index) = Some index
 stated_index _ = None
 
-stated_alternate : Key → Option (List ℕ)
+abbrev stated_alternate : Key → Option (List ℕ)
 stated_alternate (alternate_of name) = Some name
 stated_alternate _ = None
 
-stated_group : Key → Option (List ℕ)
+abbrev stated_group : Key → Option (List ℕ)
 stated_group (alternate_group name) = Some name
 stated_group _ = None
 
-stated_action : Key → Option ReadAction
+abbrev stated_action : Key → Option ReadAction
 stated_action (read_action action) = Some action
 stated_action _ = None
 
@@ -346,7 +346,7 @@ tree-decided one other = (tree_alone one other, λ e. subst (λ (x : Tree Step K
 
 -- ---- without the offset
 
-kept_if : (Key → Bool) → Option Key → Option Key
+abbrev kept_if : (Key → Bool) → Option Key → Option Key
 kept_if p None = None
 kept_if p (Some key) = cond (p key) (Some key) None
 
@@ -443,7 +443,7 @@ named_alone one other e =
 named_itself : (one : Named) → same_named one one ≡ true
 named_itself one = also _ _ (text_itself one.0) (tree_itself one.1)
 
-named_in : Below → List Named
+abbrev named_in : Below → List Named
 named_in leaf = []
 named_in (node step keys below others) = (step.name, record { keys = keys; below = below }) ∷ named_in others
 
@@ -459,5 +459,8 @@ numbered-decided kind n xs ys = (
 )
 
 -- nothing stands below a value
-pub nothing-decided : Decides true (leaf {S = Step} {K = Key} ≡ leaf)
+abbrev nothing : Below
+nothing = leaf
+
+pub nothing-decided : Decides true (nothing ≡ nothing)
 nothing-decided = (λ e. refl, λ e. refl)

@@ -10,14 +10,16 @@ use Rattle.patch_arrays.specs.Arranging.{Element}
 use Rattle.svd_model.specs.declared.device.Child.TheOpen.{Cluster-F}
 use Rattle.svd_model.specs.declared.device.Dim.{Dim}
 use Rattle.svd_model.specs.declared.device.Field.{Field}
+use Rattle.svd_model.specs.declared.device.Item.{Item}
 use Rattle.svd_model.specs.declared.device.Peripheral.{Peripheral}
 use Rattle.svd_model.specs.declared.device.Register.{Register}
 use Rattle.svd_model.specs.declared.device.Values.{Values}
 use Rattle.svd_model.specs.declared.device.Variant.{Variant}
 use Rattle.svd_model.specs.declared.props.Props.{Props}
+use Rattle.svd_model.specs.declared.sibling.Sibling.{Sibling}
 use Rattle.svd_model.specs.Keys.{Key, derived_from, base_address, at_offset, bit_width, alternate_of, alternate_group, write_kind, read_action, value_usage, enumerated_value}
 use Rattle.svd_model.specs.Steps.{Step, same_step}
-use Rattle.svd_model.specs.Trees.{dim_places, property_places}
+use Rattle.svd_model.specs.Trees.{dim_places, field_under, item_under, property_places, set_tree, value_tree}
 use Rattle.svd_rows.specs.Forest.{Tree}
 use Rattle.svd_rows.specs.Ranks.{stated}
 use Rattle.svd_rows.specs.Rows.{rows}
@@ -102,6 +104,18 @@ same_element one other = same_step one.0 other.0 && same_tree one.1 other.1
 -- a set or value under its name
 abbrev pub same_named : (List ℕ × Tree Step Key) → (List ℕ × Tree Step Key) → Bool
 same_named one other = bytes_eq one.0 other.0 && same_tree one.1 other.1
+
+abbrev pub same_value : Variant → Variant → Bool
+same_value one other = same_named (value_tree one) (value_tree other)
+
+abbrev pub same_set : Values → Values → Bool
+same_set one other = same_named (set_tree one) (set_tree other)
+
+abbrev pub same_field : (Sibling × Field) → (Sibling × Field) → Bool
+same_field one other = same_element (field_under one) (field_under other)
+
+abbrev pub same_item : Item → Item → Bool
+same_item one other = same_element (item_under one) (item_under other)
 
 -- an element that is made of its keys and what stands below it
 abbrev pub tree_of : Option ℕ → Unplaced → Below → Tree Step Key

@@ -1,7 +1,7 @@
-ghost use Rattle.std.specs.Prelude.{IfOk, OnOk};
+ghost use Rattle.std.specs.Prelude.{◌≡◌, IfOk, OnOk};
 ghost use Rattle.patch_arrays.specs.Arranging.{is_member};
 ghost use Rattle.patch_arrays.specs.Members.{under_key};
-ghost use Rattle.patch_arrays.specs.Partings.{IsParted, Takes};
+ghost use Rattle.patch_arrays.specs.Partings.{IsParted, Takes, next_place};
 
 use crate::member::Member;
 use glob_select::Pattern;
@@ -20,6 +20,16 @@ pub(crate) struct Parted<M> {
     pub place: usize,
 }
 
+// Where the first of the members stood: here, where there is none yet.
+fn next_place<T>(members: &[T], here: usize, place: usize) -> usize
+    ensures { result ≡ next_place members.now here place }
+{
+    match members.split_first() {
+        None => here,
+        Some(_) => place,
+    }
+}
+
 /// Takes in the next child.
 fn take<M: Member>(
     parted: &mut Parted<M>,
@@ -31,9 +41,7 @@ fn take<M: Member>(
     let is_matched = pattern.matches(entry.0.name.bytes());
     let is_dimmed = entry.1.is_dimmed();
     if is_matched && !is_dimmed {
-        if parted.members.is_empty() {
-            parted.place = parted.others.len();
-        }
+        parted.place = next_place(parted.members.as_slice(), parted.others.len(), parted.place);
         parted.members.push(entry)?;
     } else {
         parted.others.push(entry)?;

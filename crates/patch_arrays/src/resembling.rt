@@ -1,16 +1,16 @@
-ghost use Rattle.std.specs.Prelude.{◌≡◌, map};
+ghost use Rattle.std.specs.Prelude.{◌≡◌};
 ghost use Rattle.std.specs.Cmp.Lexicographic.{pointwise};
 ghost use Rattle.patch_arrays.specs.Members.{is_alike};
 ghost use Rattle.patch_arrays.specs.Siblings.{same_told};
-ghost use Rattle.patch_arrays.specs.Unplaced.{IsMade, of_cluster, of_field, of_peripheral, of_register, same_element, same_unplaced};
+ghost use Rattle.patch_arrays.specs.Unplaced.{IsMade, of_cluster, of_field, of_peripheral, of_register, same_field, same_item, same_unplaced};
 ghost use Rattle.svd_model.specs.declared.device.Cluster.{out-Cluster};
-ghost use Rattle.svd_model.specs.Stating.{start_of};
-ghost use Rattle.svd_model.specs.Trees.{child_tree, cluster_tree, field_tree, field_under, item_under, peripheral_tree, register_tree};
+ghost use Rattle.svd_model.specs.Trees.{child_tree, cluster_tree, field_tree, peripheral_tree, register_tree};
 
 use crate::sameness::{same_dim, same_path, same_props, same_sets};
 use indexmap::IndexMap;
 use svd_model::{Child, Cluster, Field, Item, Peripheral, Register, Sibling};
 
+#[tactic(auto, unfolding(crate::specs::Unplaced::same_unplaced))]
 fn same_field_keys(one: &Field, other: &Field) -> bool
     ensures { result ≡ same_unplaced (of_field one.now) (of_field other.now) }
 {
@@ -30,7 +30,7 @@ pub(crate) fn is_like_field(one: &Field, other: &Field) -> bool
 }
 
 fn same_field(key: &Sibling, one: &Field, also: &Sibling, other: &Field) -> bool
-    ensures { result ≡ same_element (field_under (key.now, one.now)) (field_under (also.now, other.now)) }
+    ensures { result ≡ same_field (key.now, one.now) (also.now, other.now) }
 {
     if key != also {
         return false;
@@ -42,7 +42,7 @@ fn same_field(key: &Sibling, one: &Field, also: &Sibling, other: &Field) -> bool
 }
 
 fn same_fields(one: &IndexMap<Sibling, Field>, other: &IndexMap<Sibling, Field>) -> bool
-    ensures { result ≡ pointwise same_element (map field_under one.now.entries) (map field_under other.now.entries) }
+    ensures { result ≡ pointwise same_field one.now.entries other.now.entries }
 {
     if one.len() != other.len() {
         return false;
@@ -61,6 +61,7 @@ fn same_fields(one: &IndexMap<Sibling, Field>, other: &IndexMap<Sibling, Field>)
     true
 }
 
+#[tactic(auto, unfolding(crate::specs::Unplaced::same_unplaced))]
 fn same_register_keys(one: &Register, other: &Register) -> bool
     ensures { result ≡ same_unplaced (of_register one.now) (of_register other.now) }
 {
@@ -79,6 +80,7 @@ fn is_like_register(one: &Register, other: &Register) -> bool
     same_register_keys(one, other) && same_fields(&one.fields, &other.fields)
 }
 
+#[tactic(auto, unfolding(crate::specs::Unplaced::same_unplaced))]
 fn same_cluster_keys(one: &Cluster, other: &Cluster) -> bool
     ensures { result ≡ same_unplaced (of_cluster (out-Cluster one.now)) (of_cluster (out-Cluster other.now)) }
 {
@@ -124,7 +126,7 @@ pub(crate) fn offset_of(child: &Child) -> u128
 
 #[cycle(likeness)]
 fn same_item(one: &Item, other: &Item) -> bool
-    ensures { result ≡ same_element (item_under one.now) (item_under other.now) }
+    ensures { result ≡ same_item one.now other.now }
 {
     if one.key != other.key {
         return false;
@@ -137,7 +139,7 @@ fn same_item(one: &Item, other: &Item) -> bool
 
 #[cycle(likeness)]
 fn same_items(one: &[Item], other: &[Item]) -> bool
-    ensures { result ≡ pointwise same_element (map item_under one.now) (map item_under other.now) }
+    ensures { result ≡ pointwise same_item one.now other.now }
 {
     if one.len() != other.len() {
         return false;
@@ -150,6 +152,7 @@ fn same_items(one: &[Item], other: &[Item]) -> bool
     true
 }
 
+#[tactic(auto, unfolding(crate::specs::Unplaced::same_unplaced))]
 fn same_peripheral_keys(one: &Peripheral, other: &Peripheral) -> bool
     ensures { result ≡ same_unplaced (of_peripheral one.now) (of_peripheral other.now) }
 {

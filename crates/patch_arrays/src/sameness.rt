@@ -1,10 +1,9 @@
-ghost use Rattle.std.specs.Prelude.{◌≡◌, Bool, [], map, unwrap_or};
+ghost use Rattle.std.specs.Prelude.{◌≡◌, Bool, [], unwrap_or};
 ghost use Rattle.std.specs.Option.{option_eq};
 ghost use Rattle.std.specs.Cmp.Lexicographic.{pointwise};
 ghost use Rattle.std.specs.Str.{bytes_eq};
 ghost use Rattle.patch_sem.specs.Likeness.{same_index};
-ghost use Rattle.patch_arrays.specs.Unplaced.{of_set, of_value, same_dim, same_named, same_path, same_props, same_unplaced, same_written};
-ghost use Rattle.svd_model.specs.Trees.{set_tree, value_tree};
+ghost use Rattle.patch_arrays.specs.Unplaced.{of_set, same_dim, same_path, same_props, same_set, same_unplaced, same_value, same_written};
 
 use pac_base::{Name, Path, Step};
 use svd_model::{Dim, Props, Values, Variant};
@@ -119,7 +118,7 @@ pub(crate) fn same_props(one: &Props, other: &Props) -> bool
 }
 
 impl Compared for Variant {
-    ghost same = { λ one other. same_named (value_tree one) (value_tree other) };
+    ghost same = { same_value };
 
     fn is_same(&self, other: &Variant) -> bool {
         self.name.as_str() == other.name.as_str() && self.value == other.value
@@ -136,6 +135,7 @@ fn written(name: &Option<Name>) -> &[u8]
     }
 }
 
+#[tactic(auto, unfolding(crate::specs::Unplaced::same_unplaced))]
 fn same_set_keys(one: &Values, other: &Values) -> bool
     ensures { result ≡ same_unplaced (of_set one.now) (of_set other.now) }
 {
@@ -143,18 +143,19 @@ fn same_set_keys(one: &Values, other: &Values) -> bool
 }
 
 impl Compared for Values {
-    ghost same = { λ one other. same_named (set_tree one) (set_tree other) };
+    ghost same = { same_set };
 
     fn is_same(&self, other: &Values) -> bool {
-        written(&self.name) == written(&other.name)
-            && same_set_keys(self, other)
-            && all_same(self.items.as_slice(), other.items.as_slice())
+        if written(&self.name) != written(&other.name) {
+            return false;
+        }
+        same_set_keys(self, other) && all_same(self.items.as_slice(), other.items.as_slice())
     }
 }
 
 /// Whether two lists of sets of enumerated values are the same.
 pub(crate) fn same_sets(one: &[Values], other: &[Values]) -> bool
-    ensures { result ≡ pointwise same_named (map set_tree one.now) (map set_tree other.now) }
+    ensures { result ≡ pointwise same_set one.now other.now }
 {
     all_same(one, other)
 }
