@@ -1,17 +1,17 @@
 -- What becomes of children that are parted into members and others.
-use Rattle.std.proofs.Common.{◌≡◌, ℕ, ◌<◌, Bool, true, false, cond, not, ◌&&◌, ◌||◌, nat_eq, List, [], ◌∷◌, ◌++◌, map, filter, take, drop, length, Ok, Err, refl, sym, ap, ap₂, ◌∙◌, subst, arith}
+use Rattle.std.proofs.Common.{◌≡◌, ℕ, ◌<◌, Bool, true, false, cond, not, ◌&&◌, ◌||◌, nat_eq, List, [], ◌∷◌, ◌++◌, map, filter, take, drop, length, Result, Ok, Err, IfOk, Vec, inl, inr, ◌⊎◌, refl, sym, ap, ap₂, ◌∙◌, subst, arith}
 use Rattle.std.specs.List.{AllByRecursion, IsDistinct as AreDistinct, list_any}
 use Rattle.std.specs.Str.{bytes_eq}
 use Rattle.patch_edits.specs.Visits.{Below}
 use Rattle.patch_model.specs.Acts.{PatternItems}
 use Rattle.patch_sem.specs.Arrays.{first_uneven, ordered_by, unless_uneven, unless_unlike}
 use Rattle.patch_sem.specs.declared.fault.PatchFault.{PatchFault}
-use Rattle.patch_sem.specs.declared.fault.PatchFault.TheVariants.{AddExists, NoMatch}
+use Rattle.patch_sem.specs.declared.fault.PatchFault.TheVariants.{AddExists, Memory, NoMatch}
 use Rattle.patch_sem.specs.Selecting.{is_named, is_patched}
 use Rattle.patch_sem.specs.Steps.{Outcome, refused_if, unless_none}
 use Rattle.patch_arrays.proofs.Each.{each_append, each_exchanged, each_from, each_kept, each_map}
 use Rattle.patch_arrays.specs.Arranging.{Element, arranged, array_of, arraying_in, first_differing, is_member, is_taken, offset_of, placed_step, with_array}
-use Rattle.patch_arrays.specs.Makings.{IsArranged, capped, key_of, unless_unfit}
+use Rattle.patch_arrays.specs.Makings.{Arranges, IsArranged, MakesArray, capped, key_of, unless_unfit}
 use Rattle.patch_arrays.specs.Members.{Seen, entry_key, under_key}
 use Rattle.patch_arrays.specs.Partings.{IsParted, put_at}
 use Rattle.patch_arrays.specs.declared.parting.Parted.{Parted}
@@ -210,3 +210,17 @@ module _ {M : Type 0} (seen : M → Seen) (known : (one : M) → is_patched (see
           made-distinct distinct =
               subst (λ (entries : List Entry). AreDistinct sibling_eq (map entry_key entries)) (sym put-exchanged)
               (distinct-exchanged test done.array children (apart-each children (ap (list_any has_name) (sym is.others) ∙ free)) distinct)
+
+    -- what the parted children come to, as a result
+    pub arranged-by : {Z : Type 0} → 0 < length parted.members.items → list_any has_name parted.others.items ≡ false → (result : Result (Vec (Sibling × M) Z) PatchFault) → MakesArray seen line name parted result → Arranges seen (arraying_in capped line pattern name els) result
+    arranged-by some free (Ok made) done = made-arranged some free made.items done
+    arranged-by some free (Err fault) (inl memory) = inl memory
+    arranged-by some free (Err fault) (inr unfit) = inr (unfit-arranged some free fault unfit)
+
+    pub distinct-by : {Z : Type 0} → 0 < length parted.members.items → list_any has_name parted.others.items ≡ false → (result : Result (Vec (Sibling × M) Z) PatchFault) → MakesArray seen line name parted result → IfOk result (λ made. AreDistinct sibling_eq (map entry_key children) → AreDistinct sibling_eq (map entry_key made.items))
+    distinct-by some free (Ok made) done = made-distinct some free made.items done
+    distinct-by some free (Err fault) done = tt
+
+    pub refused-by : 0 < length parted.members.items → list_any has_name parted.others.items ≡ true → (fault : PatchFault) → (fault ≡ Memory) ⊎ (fault ≡ AddExists line name) → (fault ≡ Memory) ⊎ (arraying_in capped line pattern name els ≡ Err fault)
+    refused-by some taken fault (inl memory) = inl memory
+    refused-by some taken fault (inr is) = inr (taken-arranged some taken ∙ ap Err (sym is))

@@ -1,12 +1,13 @@
 -- Members that are checked one after the other.
-use Rattle.std.proofs.Common.{◌≡◌, ℕ, Bool, true, false, cond, List, [], ◌∷◌, map, find, length, Option, None, Some, option_map, Ok, Err, refl, sym, ap, ◌∙◌, subst, arith}
+use Rattle.std.proofs.Common.{◌≡◌, ℕ, Bool, true, false, cond, List, [], ◌∷◌, map, find, length, Option, None, Some, option_map, Result, Ok, Err, inl, inr, ◌⊎◌, refl, sym, ap, ◌∙◌, subst, arith}
 use Rattle.patch_edits.specs.Visits.{Below}
 use Rattle.patch_sem.specs.Arrays.{first_step, first_uneven, is_uneven, neighbours, unless_uneven, unless_unlike}
 use Rattle.patch_sem.specs.declared.fault.PatchFault.{PatchFault}
+use Rattle.patch_sem.specs.declared.fault.PatchFault.TheVariants.{Memory}
 use Rattle.patch_sem.specs.Steps.{Outcome}
 use Rattle.patch_arrays.specs.Arranging.{Element, differs, first_differing, placed_step}
-use Rattle.patch_arrays.specs.Checks.{uneven_fault, uneven_pair, unlike_fault}
-use Rattle.patch_arrays.specs.Makings.{unless_unfit}
+use Rattle.patch_arrays.specs.Checks.{Refuses, uneven_fault, uneven_pair, unlike_fault}
+use Rattle.patch_arrays.specs.Makings.{Passes, unless_unfit}
 use Rattle.svd_model.specs.Steps.{Step}
 
 abbrev Pair : Type 0
@@ -90,3 +91,29 @@ module _ (line : ℕ) where
 pub first_uneven-is : (members : List Element) → first_uneven (map placed_step members) ≡ find (uneven_pair (first_step (map placed_step members))) (neighbours (map placed_step members))
 unfolding first_uneven
 first_uneven-is members = refl
+
+-- ---- results
+
+pub steps-refused : {A : Type 0} (told : A → PatchFault) (found : Option A) (pair : A) (fault : PatchFault) → found ≡ Some pair → (fault ≡ Memory) ⊎ (fault ≡ told pair) → (fault ≡ Memory) ⊎ (option_map told found ≡ Some fault)
+steps-refused told found pair fault is (inl memory) = inl memory
+steps-refused told found pair fault is (inr e) = inr (ap (option_map told) is ∙ ap Some (sym e))
+
+-- the checks of both, where that of the steps refuses
+pub passes-steps : (line : ℕ) (members : List Element) (step : ℕ) (fault : PatchFault) → step ≡ first_step (map placed_step members) → (fault ≡ Memory) ⊎ (option_map (uneven_fault line) (find (uneven_pair step) (neighbours (map placed_step members))) ≡ Some fault) → (fault ≡ Memory) ⊎ ((rest : Outcome Below) → unless_unfit line members rest ≡ Err fault)
+passes-steps line members step fault is (inl memory) = inl memory
+passes-steps line members step fault is (inr e) = inr (unfit-by-steps line members (find (uneven_pair step) (neighbours (map placed_step members))) fault (first_uneven-is members ∙ sym (ap (λ (n : ℕ). find (uneven_pair n) (neighbours (map placed_step members))) is)) e)
+
+even-all : (members : List Element) (step : ℕ) → step ≡ first_step (map placed_step members) → find (uneven_pair step) (neighbours (map placed_step members)) ≡ None → first_uneven (map placed_step members) ≡ None
+even-all members step is none = first_uneven-is members ∙ sym (ap (λ (n : ℕ). find (uneven_pair n) (neighbours (map placed_step members))) is) ∙ none
+
+pub passes-none : (line : ℕ) (members : List Element) → length members ≡ 0 → (rest : Outcome Below) → unless_unfit line members rest ≡ rest
+passes-none line [] none rest = fit-none line rest
+passes-none line (x ∷ members) none rest = absurd (omega (arith, none))
+
+-- and where they stand evenly, that of likeness decides
+pub passes-likeness : (line : ℕ) (members : List Element) (step : ℕ) (first : Element) (others : List Element) (result : Result (Unit {0}) PatchFault) → step ≡ first_step (map placed_step members) → find (uneven_pair step) (neighbours (map placed_step members)) ≡ None → members ≡ first ∷ others → Refuses (unlike_fault line first) (find (differs first) others) result → Passes (unless_unfit line members) result
+passes-likeness line members step first others (Ok done) is even split alike =
+    λ rest. ap (λ (all : List Element). unless_unfit line all rest) split ∙ fit-both line first others rest (sym (ap (λ (all : List Element). first_uneven (map placed_step all)) split) ∙ even-all members step is even) alike
+passes-likeness line members step first others (Err fault) is even split (inl memory) = inl memory
+passes-likeness line members step first others (Err fault) is even split (inr e) =
+    inr (λ rest. ap (λ (all : List Element). unless_unfit line all rest) split ∙ unfit-by-likeness line first others (find (differs first) others) fault (sym (ap (λ (all : List Element). first_uneven (map placed_step all)) split) ∙ even-all members step is even) refl e rest)

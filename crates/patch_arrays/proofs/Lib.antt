@@ -21,4 +21,4 @@ pub mod Checked
 pub mod Refilled
 pub mod Same
 pub mod Edits
-pub mod Kinds
+pub mod ByKind

@@ -21,7 +21,7 @@ use Rattle.svd_model.specs.Keys.{Key, at_offset, base_address}
 use Rattle.svd_model.specs.Properties.{nearest}
 use Rattle.svd_model.specs.Stating.{start_of, stated_base, stated_offset, value_of}
 use Rattle.svd_model.specs.Steps.{Kind, Step, set, value}
-use Rattle.svd_model.specs.Trees.{child_tree, cluster_places, cluster_tree, field_places, field_under, item_under, numbered, peripheral_places, peripheral_under, register_places, set_places, set_tree, value_places, value_tree}
+use Rattle.svd_model.specs.Trees.{child_tree, cluster_places, cluster_tree, field_places, field_under, item_under, numbered, peripheral_places, peripheral_under, register_places, set_places, set_tree, step_of, value_places, value_tree}
 use Rattle.svd_model.proofs.Trees.{child_tree-cluster, child_tree-register, cluster_tree-is, item_under-roll}
 use Rattle.svd_rows.specs.Elements.{Every}
 use Rattle.svd_rows.specs.Forest.{Tree, leaf, node, siblings}
@@ -99,7 +99,7 @@ item-start : (item : Item) → ItemStarts item
 item-start = ind-Item ChildStarts ClusterStarts ItemStarts
     (λ x y is. subst (λ (z : Child-F Child Cluster Item). ChildStarts (roll-Child z)) is (child-start y))
     (λ x y is. cluster-start (roll-Cluster x) (subst (λ (z : Cluster-F Child Cluster Item). AllByRecursion ItemStarts z.children.items) (is ∙ sym (out-roll-Cluster x)) (firsts y.children.items)))
-    (λ x y is. subst (λ (z : Item-F Child Cluster Item). ItemStarts (roll-Item z)) is (subst Starts (sym (item_under-roll (record { key = y.key; child = y.child.0 }))) (y.child.1.0 _, y.child.1.1)))
+    (λ x y is. subst (λ (z : Item-F Child Cluster Item). ItemStarts (roll-Item z)) is (subst Starts (sym (item_under-roll (record { key = y.key; child = y.child.0 }))) (y.child.1.0 (step_of (child_tree y.child.0).0 y.key), y.child.1.1)))
 
 each-item : (items : List Item) → AllByRecursion ItemStarts items
 each-item [] = tt

@@ -1,5 +1,5 @@
 -- Two lists that are compared item by item.
-use Rattle.std.proofs.Common.{◌≡◌, ℕ, zero, suc, ◌+◌, ◌<◌, ◌≤◌, Bool, true, false, ◌&&◌, List, [], ◌∷◌, map, drop, length, get_or, refl, sym, ap, ap₂, ◌∙◌, arith}
+use Rattle.std.proofs.Common.{◌≡◌, ℕ, zero, suc, ◌+◌, ◌<◌, ◌≤◌, Bool, true, false, ◌&&◌, List, [], ◌∷◌, map, drop, length, get_or, slice_get, Some, refl, sym, ap, ap₂, ◌∙◌, arith}
 use Rattle.std.specs.Cmp.Lexicographic.{pointwise}
 
 never : (b : Bool) → false ≡ (b && false)
@@ -37,6 +37,27 @@ module _ {A : Type 0} (same : A → A → Bool) where
   pub same-stops : (xs ys : List A) (n : ℕ) (d x y : A) → n < length xs → n < length ys → get_or xs n d ≡ x → get_or ys n d ≡ y → same x y ≡ false → SameFrom xs ys n → false ≡ pointwise same xs ys
   same-stops xs ys n d x y a b is also e so_far =
       sym (ap (λ (b : Bool). b && pointwise same (drop (n + 1) xs) (drop (n + 1) ys)) (ap₂ same is also ∙ e)) ∙ sym (one_more xs ys n d a b) ∙ so_far
+
+  next_at : (xs ys : List A) (n : ℕ) (x y : A) → slice_get xs n ≡ Some x → slice_get ys n ≡ Some y → pointwise same (drop n xs) (drop n ys) ≡ (same x y && pointwise same (drop (suc n) xs) (drop (suc n) ys))
+  next_at [] ys n x y a b = cc
+  next_at (z ∷ xs) [] n x y a b = cc
+  next_at (z ∷ xs) (v ∷ ys) zero x y a b =
+      let one : z ≡ x = cc in
+      let other : v ≡ y = cc in
+      ap₂ (λ (s t : A). same s t && pointwise same xs ys) one other
+  next_at (z ∷ xs) (v ∷ ys) (suc n) x y a b = next_at xs ys n x y a b
+
+  more_at : (xs ys : List A) (n : ℕ) (x y : A) → slice_get xs n ≡ Some x → slice_get ys n ≡ Some y → pointwise same (drop n xs) (drop n ys) ≡ (same x y && pointwise same (drop (n + 1) xs) (drop (n + 1) ys))
+  more_at xs ys n x y a b = next_at xs ys n x y a b ∙ ap (λ (m : ℕ). same x y && pointwise same (drop m xs) (drop m ys)) (after n)
+    where
+      after : (m : ℕ) → suc m ≡ m + 1
+      after m = omega arith
+
+  pub step-at : (xs ys : List A) (n : ℕ) (x y : A) → slice_get xs n ≡ Some x → slice_get ys n ≡ Some y → same x y ≡ true → SameFrom xs ys n → SameFrom xs ys (n + 1)
+  step-at xs ys n x y a b e so_far = sym (ap (λ (c : Bool). c && pointwise same (drop (n + 1) xs) (drop (n + 1) ys)) e) ∙ sym (more_at xs ys n x y a b) ∙ so_far
+
+  pub stops-at : (xs ys : List A) (n : ℕ) (x y : A) → slice_get xs n ≡ Some x → slice_get ys n ≡ Some y → same x y ≡ false → SameFrom xs ys n → false ≡ pointwise same xs ys
+  stops-at xs ys n x y a b e so_far = sym (ap (λ (c : Bool). c && pointwise same (drop (n + 1) xs) (drop (n + 1) ys)) e) ∙ sym (more_at xs ys n x y a b) ∙ so_far
 
   drop-all : (xs : List A) (n : ℕ) → length xs ≤ n → drop n xs ≡ []
   drop-all [] zero le = refl

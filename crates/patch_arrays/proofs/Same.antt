@@ -88,6 +88,17 @@ item-same one other m n is also =
     ∙ ap (λ (b : Bool). (same_kind (child_tree one.child).0 (child_tree other.child).0 && sibling_eq one.key other.key) && b) (made-same (child_tree one.child).1 (child_tree other.child).1 m n is also)
     ∙ turned (same_kind (child_tree one.child).0 (child_tree other.child).0) (sibling_eq one.key other.key) (nat_eq m n) (same_told (child_tree one.child).1 (child_tree other.child).1)
 
+-- other keys
+second-not : (a b c : Bool) → b ≡ false → ((a && b) && c) ≡ false
+second-not true b c e = ap (λ (x : Bool). x && c) e
+second-not false b c e = refl
+
+pub item-key : (one other : Item) → sibling_eq one.key other.key ≡ false → false ≡ same_item one other
+unfolding same_step
+item-key one other e =
+    sym (ap₂ same_element (item_under-is one) (item_under-is other)
+    ∙ second-not (same_kind (child_tree one.child).0 (child_tree other.child).0) (sibling_eq one.key other.key) (same_tree (child_tree one.child).1 (child_tree other.child).1) e)
+
 -- ---- sets and values
 
 with_true : (b : Bool) → (b && true) ≡ b

@@ -1,8 +1,14 @@
 -- Children that are parted one after the other.
-use Rattle.std.proofs.Common.{◌≡◌, ◌≤◌, ℕ, zero, suc, ◌+◌, Bool, true, false, cond, not, List, [], ◌∷◌, ◌++◌, filter, take, drop, length, refl, sym, ap, ap₂, ◌∙◌, subst, append-nil, append_assoc, arith, length-append}
+use Rattle.std.proofs.Common.{◌≡◌, ◌≤◌, ℕ, zero, suc, ◌+◌, Bool, true, false, cond, not, ◌&&◌, List, [], ◌∷◌, ◌++◌, filter, take, drop, length, refl, sym, ap, ap₂, ◌∙◌, subst, append-nil, append_assoc, arith, length-append}
+use Rattle.std.specs.List.{list_any}
+use Rattle.glob_select.specs.Matching.{matches}
+use Rattle.patch_arrays.specs.Arranging.{Element, is_member}
 use Rattle.patch_arrays.specs.declared.parting.Parted.{Parted}
 use Rattle.patch_arrays.specs.Partings.{IsParted, Takes, next_place, put_at}
+use Rattle.patch_model.specs.Acts.{PatternItems}
+use Rattle.patch_sem.specs.Selecting.{is_patched, selects}
 use Rattle.svd_model.specs.declared.sibling.Sibling.{Sibling}
+use Rattle.svd_model.specs.Facts.{is_dim}
 use Rattle.svd_rows.specs.RowEdits.{exchanged}
 
 module _ {M : Type 0} (test : Sibling × M → Bool) where
@@ -127,3 +133,22 @@ module _ {M : Type 0} (test : Sibling × M → Bool) where
     placed = λ new. joined-nothing parted.members.items parted.others.items new parted.place ∙ ap (joined parted.members.items parted.place new parted.others.items) (sym none) ∙ so_far.placed new;
     within = so_far.within;
   }
+
+-- ---- one child
+
+-- whether a child becomes a member, by what the code asks of it
+pub member-is : (pattern : PatternItems) (child : Element) (matched dimmed : Bool) → is_patched child.0.kind ≡ true → matched ≡ matches pattern child.0.name → dimmed ≡ list_any is_dim child.1.keys → is_member pattern child ≡ (matched && not dimmed)
+unfolding selects
+member-is pattern child matched dimmed known one other =
+    ap (λ (b : Bool). (b && matches pattern child.0.name) && not (list_any is_dim child.1.keys)) known
+    ∙ sym (ap₂ (λ (a b : Bool). a && not b) one other)
+
+pub takes_by : {M : Type 0} (a b : Bool) (entry : Sibling × M) (old new : Parted M) → b ≡ a → Takes a entry old new → Takes b entry old new
+takes_by a b entry old new e taken = subst (λ (x : Bool). Takes x entry old new) (sym e) taken
+
+pub next_none : {A : Type 0} (members : List A) (here place : ℕ) → length members ≡ 0 → here ≡ next_place members here place
+next_none [] here place none = refl
+next_none (x ∷ members) here place none = absurd (omega (arith, none))
+
+pub next_some : {A : Type 0} (members : List A) (x : A) (others : List A) (here place : ℕ) → members ≡ x ∷ others → place ≡ next_place members here place
+next_some {A = A} members x others here place is = ap (λ (xs : List A). next_place xs here place) (sym is)

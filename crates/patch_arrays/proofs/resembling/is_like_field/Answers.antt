@@ -6,7 +6,7 @@ use Rattle.patch_arrays.proofs.resembling.is_like_field.Goals as goal
 
 pub returns-then-same_field_keys : goal.returns-then-same_field_keys
 returns-then-same_field_keys c =
-    and-then _ _ _ _ (sym c.same_field_keys.ensures ∙ c.if-same_field_keys.true) (c.same_sets.ensures ∙ ap₂ (pointwise same_set) c.as_slice.ensures.value c.as_slice-2.ensures.value) (field-like c.args.one.now c.args.other.now)
+    and-then _ _ _ _ (sym c.same_field_keys.ensures ∙ c.if-same_field_keys.true) (c.same_sets.ensures ∙ ap₂ (pointwise same_set) c.as_slice.ensures.value c.as_slice-then-same_field_keys.ensures.value) (field-like c.args.one.now c.args.other.now)
 
 pub returns-else-same_field_keys : goal.returns-else-same_field_keys
-returns-else-same_field_keys c = and-else _ _ _ (sym c.same_field_keys.ensures ∙ c.if-same_field_keys.false) (field-like c.args.one.now c.args.other.now)
+returns-else-same_field_keys c = c.if-same_field_keys.false ∙ and-else _ _ _ (sym c.same_field_keys.ensures ∙ c.if-same_field_keys.false) (field-like c.args.one.now c.args.other.now)

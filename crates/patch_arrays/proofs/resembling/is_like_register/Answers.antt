@@ -7,4 +7,4 @@ returns-then-same_register_keys c =
     and-then _ _ _ _ (sym c.same_register_keys.ensures ∙ c.if-same_register_keys.true) c.same_fields.ensures (register-like c.args.one.now c.args.other.now)
 
 pub returns-else-same_register_keys : goal.returns-else-same_register_keys
-returns-else-same_register_keys c = and-else _ _ _ (sym c.same_register_keys.ensures ∙ c.if-same_register_keys.false) (register-like c.args.one.now c.args.other.now)
+returns-else-same_register_keys c = c.if-same_register_keys.false ∙ and-else _ _ _ (sym c.same_register_keys.ensures ∙ c.if-same_register_keys.false) (register-like c.args.one.now c.args.other.now)

@@ -1,4 +1,4 @@
-use Rattle.patch_arrays.proofs.Kinds.{cluster-made, register-made}
+use Rattle.patch_arrays.proofs.ByKind.{cluster-made, register-made}
 use Rattle.patch_arrays.proofs.resembling.offset_of.Goals as goal
 
 pub returns-in-Cluster : goal.returns-in-Cluster

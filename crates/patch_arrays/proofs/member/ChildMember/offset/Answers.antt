@@ -1,4 +1,4 @@
-use Rattle.patch_arrays.proofs.Kinds.{made-start}
+use Rattle.patch_arrays.proofs.ByKind.{made-start}
 use Rattle.svd_model.specs.Trees.{child_tree}
 use Rattle.patch_arrays.proofs.member.ChildMember.offset.Goals as goal
 

@@ -1,5 +1,5 @@
 use Rattle.std.proofs.Common.{◌∙◌}
-use Rattle.patch_arrays.proofs.Kinds.{field-dim}
+use Rattle.patch_arrays.proofs.ByKind.{field-dim}
 use Rattle.patch_arrays.proofs.member.FieldMember.is_dimmed.Goals as goal
 
 pub returns : goal.returns

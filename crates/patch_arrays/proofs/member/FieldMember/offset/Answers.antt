@@ -1,5 +1,5 @@
 use Rattle.std.proofs.Common.{◌∙◌}
-use Rattle.patch_arrays.proofs.Kinds.{field-start}
+use Rattle.patch_arrays.proofs.ByKind.{field-start}
 use Rattle.patch_arrays.proofs.member.FieldMember.offset.Goals as goal
 
 pub returns : goal.returns

@@ -1,4 +1,4 @@
-use Rattle.patch_arrays.proofs.Kinds.{field-dimmed}
+use Rattle.patch_arrays.proofs.ByKind.{field-dimmed}
 use Rattle.patch_arrays.proofs.member.FieldMember.set_dim.Goals as goal
 
 pub returns : goal.returns

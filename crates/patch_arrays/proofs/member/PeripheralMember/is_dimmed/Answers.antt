@@ -1,5 +1,5 @@
 use Rattle.std.proofs.Common.{◌∙◌}
-use Rattle.patch_arrays.proofs.Kinds.{peripheral-dim}
+use Rattle.patch_arrays.proofs.ByKind.{peripheral-dim}
 use Rattle.patch_arrays.proofs.member.PeripheralMember.is_dimmed.Goals as goal
 
 pub returns : goal.returns

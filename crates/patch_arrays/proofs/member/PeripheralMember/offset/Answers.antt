@@ -1,4 +1,4 @@
-use Rattle.patch_arrays.proofs.Kinds.{peripheral-start}
+use Rattle.patch_arrays.proofs.ByKind.{peripheral-start}
 use Rattle.patch_arrays.proofs.member.PeripheralMember.offset.Goals as goal
 
 pub returns : goal.returns

@@ -1,4 +1,4 @@
-use Rattle.patch_arrays.proofs.Kinds.{peripheral-dimmed}
+use Rattle.patch_arrays.proofs.ByKind.{peripheral-dimmed}
 use Rattle.patch_arrays.proofs.member.PeripheralMember.set_dim.Goals as goal
 
 pub returns : goal.returns

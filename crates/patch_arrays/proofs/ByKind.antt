@@ -24,6 +24,9 @@ use Rattle.svd_rows.specs.Forest.{Tree, siblings}
 plain : (a : ℕ) → a + 0 ≡ a
 plain a = omega arith
 
+front : (a : ℕ) → 0 + a ≡ a
+front a = omega arith
+
 -- ---- is it a list or an array?
 
 pub peripheral-dim : (one : Peripheral) → is_some one.dim.count ≡ list_any is_dim (peripheral_tree one).keys
@@ -56,7 +59,7 @@ peripheral-start one = sym (start-with (Some one.base) None (of_peripheral one) 
 
 pub field-start : (one : Field) → unwrap_or one.place.offset 0 ≡ start_of (field_tree one).keys None
 unfolding field_places places_with
-field-start one = sym (start-with None one.place.offset (of_field one))
+field-start one = sym (start-with None one.place.offset (of_field one) ∙ front (unwrap_or one.place.offset 0))
 
 pub cluster-made : (child : Child) (one : Cluster) → child ≡ children.Cluster one → IsMade (child_tree child).1 (out-Cluster one).offset
 unfolding cluster_places places_with
@@ -71,7 +74,7 @@ register-made child one is =
     (of_register one, tree ∙ ap (tree_of (Some one.offset) (of_register one)) (sym (ap (λ (t : Tree Step Key). t.below) tree)))
 
 pub made-start : (tree : Tree Step Key) (offset : ℕ) → IsMade tree offset → offset ≡ start_of tree.keys None
-made-start tree offset is = sym (ap (λ (t : Tree Step Key). start_of t.keys None) is.1 ∙ start-with None (Some offset) is.0)
+made-start tree offset is = sym (ap (λ (t : Tree Step Key). start_of t.keys None) is.1 ∙ start-with None (Some offset) is.0 ∙ front offset)
 
 -- ---- as an array
 
