@@ -1,10 +1,10 @@
 -- What becomes of children that are parted into members and others.
-use Rattle.std.proofs.Common.{◌≡◌, ℕ, ◌<◌, Bool, true, false, cond, not, ◌&&◌, ◌||◌, nat_eq, List, [], ◌∷◌, ◌++◌, map, filter, take, drop, length, Result, Ok, Err, IfOk, Vec, inl, inr, ◌⊎◌, refl, sym, ap, ap₂, ◌∙◌, subst, arith}
+use Rattle.std.proofs.Common.{◌≡◌, ℕ, ◌<◌, Bool, true, false, cond, not, ◌&&◌, ◌||◌, nat_eq, nat_le, List, [], ◌∷◌, ◌++◌, map, filter, take, drop, length, Result, Ok, Err, IfOk, Vec, inl, inr, ◌⊎◌, refl, sym, ap, ap₂, ◌∙◌, subst, arith}
 use Rattle.std.specs.List.{AllByRecursion, IsDistinct as AreDistinct, list_any}
 use Rattle.std.specs.Str.{bytes_eq}
 use Rattle.patch_edits.specs.Visits.{Below}
 use Rattle.patch_model.specs.Acts.{PatternItems}
-use Rattle.patch_sem.specs.Arrays.{first_uneven, ordered_by, unless_uneven, unless_unlike}
+use Rattle.patch_sem.specs.Arrays.{first_uneven, ordered_by, put_in, unless_uneven, unless_unlike}
 use Rattle.patch_sem.specs.declared.fault.PatchFault.{PatchFault}
 use Rattle.patch_sem.specs.declared.fault.PatchFault.TheVariants.{AddExists, Memory, NoMatch}
 use Rattle.patch_sem.specs.Selecting.{is_named, is_patched}
@@ -57,7 +57,7 @@ map-some : {A B : Type 0} (f : A → B) (xs : List A) → 0 < length xs → 0 < 
 map-some f [] some = some
 map-some f (x ∷ xs) some = omega arith
 
-no_both : (b : Bool) → b ≡ true → b ≡ false → ⊥
+pub no_both : (b : Bool) → b ≡ true → b ≡ false → ⊥
 no_both true e f = cc
 no_both false e f = cc
 
@@ -98,6 +98,36 @@ module _ {M : Type 0} (test : Sibling × M → Bool) where
             (each_exchanged (λ x. sibling_eq entry.0 x.0 ≡ false) test (new ∷ []) entries ((all.0 e).1, tt) (each_map (λ other. sibling_eq entry.0 other ≡ false) entry_key entries h.0)),
         more,
       )
+
+-- members in another order are as many
+put-some : {A : Type 0} (key : A → ℕ) (x : A) (xs : List A) → 0 < length (put_in key x xs)
+unfolding put_in
+put-some key x [] = omega arith
+put-some key x (y ∷ ys) = cases (nat_le (key x) (key y))
+  where
+    cases : (b : Bool) → 0 < length (cond b (x ∷ (y ∷ ys)) (y ∷ put_in key x ys))
+    cases true = omega arith
+    cases false = omega arith
+
+ordered-some : {A : Type 0} (key : A → ℕ) (xs : List A) → 0 < length xs → 0 < length (ordered_by key xs)
+unfolding ordered_by
+ordered-some key [] some = some
+ordered-some key (x ∷ xs) some = put-some key x (ordered_by key xs)
+
+some-made : {A B : Type 0} (f : A → B) (xs : List A) → 0 < length (map f xs) → 0 < length xs
+some-made f [] some = some
+some-made f (x ∷ xs) some = omega arith
+
+pub order-some : {A : Type 0} (under : A → Element) (old new : List A) → 0 < length old → map under new ≡ ordered_by offset_of (map under old) → 0 < length new
+order-some under old new some ordered = some-made under new (subst (λ (xs : List Element). 0 < length xs) (sym ordered) (ordered-some offset_of (map under old) (map-some under old some)))
+
+pub no-items : {A : Type 0} (xs : List A) → length xs ≡ 0 → xs ≡ []
+no-items [] none = refl
+no-items (x ∷ xs) none = absurd (omega (arith, none))
+
+pub some-items : {A : Type 0} (xs : List A) → (length xs ≡ 0 → ⊥) → 0 < length xs
+some-items [] none = absurd (none refl)
+some-items (x ∷ xs) none = omega arith
 
 -- ---- the outcome
 

@@ -134,6 +134,10 @@ module _ {M : Type 0} (test : Sibling × M → Bool) where
     within = so_far.within;
   }
 
+  pub parted-done : (all left : List Entry) (parted : Parted M) → length left ≡ 0 → PartedUpTo all left parted → IsParted test all parted
+  parted-done all [] parted none so_far = parted-end all [] parted refl so_far
+  parted-done all (entry ∷ left) parted none so_far = absurd (omega (arith, none))
+
 -- ---- one child
 
 -- whether a child becomes a member, by what the code asks of it

@@ -1,7 +1,7 @@
 -- One child after the other.
-use Rattle.std.proofs.Common.{◌≡◌, [], refl, rules}
+use Rattle.std.proofs.Common.{refl, sym, ◌∙◌}
 use Rattle.std.specs.Vec.Iter.{into_iter_items}
-use Rattle.patch_arrays.proofs.TakenIn.{parted-end, parted-step}
+use Rattle.patch_arrays.proofs.TakenIn.{parted-done, parted-step}
 use Rattle.patch_arrays.specs.Arranging.{is_member}
 use Rattle.patch_arrays.specs.Members.{under_key}
 use Rattle.patch_arrays.proofs.parting.part.Goals as goal
@@ -13,5 +13,4 @@ loop-entry-preserved g c =
 
 pub returns : goal.returns
 returns g c =
-    let none : into_iter_items c.loop-entry.entry-iterator ≡ [] = search rules in
-    parted-end (λ entry. is_member c.args.pattern.now (under_key g.M.Member.seen entry)) c.args.children.items (into_iter_items c.loop-entry.entry-iterator) c.loop-entry.parted none c.loop-entry.invariant
+    parted-done (λ entry. is_member c.args.pattern.now (under_key g.M.Member.seen entry)) c.args.children.items (into_iter_items c.loop-entry.entry-iterator) c.loop-entry.parted (sym c.loop-entry.entry-iterator.rest.ok.0 ∙ c.in-None.ensures.steps.0) c.loop-entry.invariant
