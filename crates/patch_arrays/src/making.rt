@@ -51,11 +51,7 @@ fn put_in<T: Drop>(others: Vec<T>, place: usize, item: T) -> Result<Vec<T>, NoMe
 }
 
 // Refuses members that stand unevenly, or of which one isn't like the first.
-fn check<M: Member>(
-    alloc: Global,
-    line: u32,
-    members: &[(Sibling, M)],
-) -> Result<(), PatchFault>
+fn check<M: Member>(alloc: Global, line: u32, members: &[(Sibling, M)]) -> Result<(), PatchFault>
     ensures { Passes (unless_unfit line (map (under_key M.seen) members.now)) result }
 {
     check_steps(alloc, line, first_step(members), members)?;

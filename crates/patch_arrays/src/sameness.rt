@@ -74,11 +74,17 @@ fn same_index(one: &DimIndex, other: &DimIndex) -> bool
 {
     match one {
         DimIndex::Numbers { first, last } => match other {
-            DimIndex::Numbers { first: begin, last: end } => *first == *begin && *last == *end,
+            DimIndex::Numbers {
+                first: begin,
+                last: end,
+            } => *first == *begin && *last == *end,
             _ => false,
         },
         DimIndex::Letters { first, last } => match other {
-            DimIndex::Letters { first: begin, last: end } => *first == *begin && *last == *end,
+            DimIndex::Letters {
+                first: begin,
+                last: end,
+            } => *first == *begin && *last == *end,
             _ => false,
         },
         DimIndex::Words(words) => match other {

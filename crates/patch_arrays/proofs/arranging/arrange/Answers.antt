@@ -1,5 +1,5 @@
 -- What the parted children come to.
-use Rattle.std.proofs.Common.{◌≡◌, ◌<◌, ⊥, length, inr, sym, ap, ◌∙◌, eqb-true, eq-eqb}
+use Rattle.std.proofs.Common.{inr, sym, ap, ◌∙◌, eqb-true, eq-eqb}
 use Rattle.std.specs.List.{list_any}
 use Rattle.std.specs.Str.{bytes_eq}
 use Rattle.patch_arrays.proofs.Arranged.{arranged-by, distinct-by, no-items, no_both, none-arranged, refused-by, some-items}

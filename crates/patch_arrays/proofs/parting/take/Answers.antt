@@ -11,7 +11,7 @@ returns-in_ok-push g c =
     takes_by true _ c.args.entry c.args.parted.now _
     (member-is c.args.pattern.now (under_key g.M.Member.seen c.args.entry) c.matches-is_matched.result c.is_dimmed-is_dimmed.result (g.M.Member.known c.args.entry.1) (c.matches-is_matched.ensures ∙ ap (matches c.args.pattern.now) c.bytes.ensures.same) c.is_dimmed-is_dimmed.ensures
     ∙ ap₂ (λ a b. a && not b) c.if-is_matched.true c.if-not-is_dimmed.true)
-    (c.in_ok-push.ensures.items, refl, c.next_place-parted.ensures ∙ ap₂ (λ ms n. next_place ms n c.args.parted.now.place) c.as_slice.ensures.value c.len.ensures)
+    (c.in_ok-push.ensures.items, refl, c.next_place-parted.ensures ∙ ap₂ (λ ms n. next_place ms n c.args.parted.now.place) c.as_slice.ensures.value (c.len.ensures ∙ c.args.parted.now.others.ok.0))
 
 pub returns-in_ok-push-2 : goal.returns-in_ok-push-2
 returns-in_ok-push-2 g c =
