@@ -10,9 +10,9 @@ ghost use Rattle.pac_cli.specs.Worlds.{desk, paper};
 use crate::executing::execute;
 use crate::generating::generate;
 use crate::listing::list;
-use crate::resolving::policy_of;
 use crate::running::run_against;
 use crate::slot::{BusSlot, place_of};
+use crate::source::described;
 use pac_bus::Bus;
 use pac_fault::PacFault;
 use pac_io::{Bytes, Sink};
@@ -38,11 +38,15 @@ pub(crate) fn perform<S: Sink, B: Bus>(
     ensures headline { IfOk result (λ _. WritesText command.now inputs.now (S.written out.old) (S.written out.new)) }
 {
     match (command, inputs) {
-        (Command::Listing { source }, [svd]) => {
-            list(alloc, svd.as_slice(), policy_of(source), out)
+        (Command::Listing { source }, [svd]) => list(alloc, described(source, svd, None), out),
+        (Command::Listing { source }, [svd, patch]) => {
+            list(alloc, described(source, svd, Some(patch)), out)
         }
         (Command::Generating { source }, [svd]) => {
-            generate(alloc, svd.as_slice(), policy_of(source), out)
+            generate(alloc, described(source, svd, None), out)
+        }
+        (Command::Generating { source }, [svd, patch]) => {
+            generate(alloc, described(source, svd, Some(patch)), out)
         }
         (Command::Executing { run, .. }, [krate, script]) => {
             let place = place_of(buses.as_slice(), run.bus);
@@ -50,10 +54,16 @@ pub(crate) fn perform<S: Sink, B: Bus>(
             execute(alloc, krate.as_slice(), script.as_slice(), bus, out)
         }
         (Command::Running { source, run }, [svd, script]) => {
-            let policy = policy_of(source);
+            let source = described(source, svd, None);
             let place = place_of(buses.as_slice(), run.bus);
             let bus = &mut buses[place].bus;
-            run_against(alloc, svd.as_slice(), policy, script.as_slice(), bus, out)
+            run_against(alloc, source, script.as_slice(), bus, out)
+        }
+        (Command::Running { source, run }, [svd, patch, script]) => {
+            let source = described(source, svd, Some(patch));
+            let place = place_of(buses.as_slice(), run.bus);
+            let bus = &mut buses[place].bus;
+            run_against(alloc, source, script.as_slice(), bus, out)
         }
         (Command::Listing { .. }, _) => unreachable!(),
         (Command::Generating { .. }, _) => unreachable!(),
