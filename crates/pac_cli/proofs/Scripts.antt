@@ -34,7 +34,7 @@ use Rattle.pac_fault.specs.Classes.{Class, no_memory, bad_words, bad_read, bad_w
 use Rattle.pac_fault.specs.Layers.{of_parsing, of_script, of_typing}
 use Rattle.pac_fault.specs.declared.fault.PacFault.{PacFault}
 use Rattle.pac_fault.specs.declared.fault.PacFault.TheVariants.{Memory}
-use Rattle.pac_cli.specs.Answers.{Answer, AnswersRun, AnswersScript, AnswersText, Decides, Plan, does, no_crate_text, no_script, refused, scripted, table_plan, text_plan, unless_mistyped, unresolved}
+use Rattle.pac_cli.specs.Answers.{Answer, AnswersRun, AnswersScript, AnswersText, Decides, DecidesRun, Plan, does, no_crate_text, no_script, refused, scripted, table_plan, text_plan, unless_mistyped, unresolved}
 use Rattle.pac_cli.specs.Buses.{OthersStay, Slot, bus_of, lent_for}
 use Rattle.pac_words.specs.declared.command.Command.{Command}
 use Rattle.pac_words.specs.declared.command.Command.TheVariants.{Executing, Running}
@@ -50,7 +50,7 @@ use Rattle.pac_cli.proofs.OneReading.{no_fault}
 use Rattle.pac_cli.specs.Scripts.{no_crate, modules_too_deep, misfits, untyped, typed, CrateReadAs, IsTreeOf, no_statement, too_many_statements, mistyped, Unscripted, unread, spelled, ScriptReadAs}
 use Rattle.pac_cli.specs.Stages.{Does, DoesNot, IsScriptFor, IsUnfit, MakesAll, MakesFirst, ScriptsNot, TypesNot}
 use Rattle.pac_cli.specs.Worlds.{Desk, Paper, desk}
-use Rattle.pac_cli.proofs.Doing.{nothing_done}
+use Rattle.pac_cli.proofs.Doing.{does_otherwise, nothing_done}
 
 -- ---- crate texts
 
