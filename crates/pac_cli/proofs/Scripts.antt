@@ -45,12 +45,13 @@ use Rattle.svd_model.specs.Keys.{Key}
 use Rattle.svd_model.specs.Steps.{Step}
 use Rattle.svd_rows.specs.Rows.{Row}
 use Rattle.overlap_check.specs.declared.fault.Policy.{Policy}
-use Rattle.pac_cli.specs.Resolving.{ComeTo, SourceBytes, bytes_of, policy_of, Unresolved, stopped, resolved}
+use Rattle.pac_cli.specs.Resolving.{ComeTo, SourceBytes, bytes_from, Unresolved, stopped, resolved}
 use Rattle.pac_cli.proofs.OneReading.{no_fault}
 use Rattle.pac_cli.specs.Scripts.{no_crate, modules_too_deep, misfits, untyped, typed, CrateReadAs, IsTreeOf, no_statement, too_many_statements, mistyped, Unscripted, unread, spelled, ScriptReadAs}
 use Rattle.pac_cli.specs.Stages.{Does, DoesNot, IsScriptFor, IsUnfit, MakesAll, MakesFirst, ScriptsNot, TypesNot}
 use Rattle.pac_cli.specs.Worlds.{Desk, Paper, desk}
 use Rattle.pac_cli.proofs.Doing.{does_otherwise, nothing_done}
+use Rattle.pac_cli.proofs.Sources.{decides_run}
 
 -- ---- crate texts
 
@@ -221,25 +222,6 @@ two_inputs (text ∷ []) one other many first second = absurd (omega (arith, man
 two_inputs (text ∷ more ∷ []) one other many first second = ap₂ (λ (a b : List ℕ). a ∷ b ∷ []) (sym first) (sym second)
 two_inputs (text ∷ more ∷ next ∷ inputs) one other many first second = absurd (omega (arith, many))
 
-pub three_inputs : (inputs : List (List ℕ)) (one other third : List ℕ) → length inputs ≡ 3 → one ≡ slice_index_or inputs 0 one → other ≡ slice_index_or inputs 1 other → third ≡ slice_index_or inputs 2 third
-    → inputs ≡ one ∷ other ∷ third ∷ []
-three_inputs [] one other third many first second last = absurd (omega (arith, many))
-three_inputs (text ∷ []) one other third many first second last = absurd (omega (arith, many))
-three_inputs (text ∷ more ∷ []) one other third many first second last = absurd (omega (arith, many))
-three_inputs (text ∷ more ∷ next ∷ []) one other third many first second last = rw (first, second, last) refl
-three_inputs (text ∷ more ∷ next ∷ over ∷ inputs) one other third many first second last = absurd (omega (arith, many))
-
--- the inputs of a command that runs a script against a description, without a patch and with one
-pub decides_run : (source : Source) (given : SourceBytes) (inputs : List (List ℕ)) (svd script : List ℕ) → inputs ≡ svd ∷ script ∷ [] → given ≡ bytes_of source svd None
-    → (answer : Answer) → AnswersRun given script answer → DecidesRun source inputs answer
-decides_run source given inputs svd script are same answer h =
-    subst (λ (all : List (List ℕ)). DecidesRun source all answer) (sym are) (subst (λ (from : SourceBytes). AnswersRun from script answer) same h)
-
-pub decides_patched_run : (source : Source) (given : SourceBytes) (inputs : List (List ℕ)) (svd patch script : List ℕ) → inputs ≡ svd ∷ patch ∷ script ∷ [] → given ≡ bytes_of source svd (Some patch)
-    → (answer : Answer) → AnswersRun given script answer → DecidesRun source inputs answer
-decides_patched_run source given inputs svd patch script are same answer h =
-    subst (λ (all : List (List ℕ)). DecidesRun source all answer) (sym are) (subst (λ (from : SourceBytes). AnswersRun from script answer) same h)
-
 -- running a script against a crate text is what the command decides
 pub executed : {T : Type 0} (command : Command) (name : List ℕ) (run : Run) (inputs : List (List ℕ)) (text bytes : List ℕ) (before after : Paper) (old new : List Slot) (was now : BusTold)
     (result : Result T PacFault) → command ≡ Executing name run → inputs ≡ text ∷ bytes ∷ [] → lent_for (Some run.bus) old ≡ Some was → lent_for (Some run.bus) new ≡ Some now
@@ -284,15 +266,15 @@ answers_run source rows made bytes answer comes stands h = record {
 }
 
 -- running a script against the crate of a description is what the command decides
-pub has_run : {T : Type 0} (command : Command) (source : Source) (run : Run) (inputs : List (List ℕ)) (given : SourceBytes) (bytes : List ℕ) (before after : Paper) (old new : List Slot) (was now : BusTold)
-    (result : Result T PacFault) → command ≡ Running source run → ((answer : Answer) → AnswersRun given bytes answer → DecidesRun source inputs answer) → lent_for (Some run.bus) old ≡ Some was → lent_for (Some run.bus) new ≡ Some now
+pub has_run : {T : Type 0} (command : Command) (source : Source) (run : Run) (inputs files : List (List ℕ)) (given : SourceBytes) (bytes : List ℕ) (before after : Paper) (old new : List Slot) (was now : BusTold)
+    (result : Result T PacFault) → command ≡ Running source run → inputs ≡ files ++ bytes ∷ [] → bytes_from source files ≡ Some given → lent_for (Some run.bus) old ≡ Some was → lent_for (Some run.bus) new ≡ Some now
     → Does (AnswersRun given bytes) (desk before (Some was)) (desk after (Some now)) result
     → Does (Decides command inputs) (desk before (lent_for (bus_of command) old)) (desk after (lent_for (bus_of command) new)) result
-has_run command source run inputs given bytes before after old new was now result is decides first last h =
+has_run command source run inputs files given bytes before after old new was now result is are from first last h =
     subst (λ (c : Command). Does (Decides c inputs) (desk before (lent_for (bus_of c) old)) (desk after (lent_for (bus_of c) new)) result) (sym is)
     (subst (λ (bus : Option BusTold). Does (DecidesRun source inputs) (desk before bus) (desk after (lent_for (Some run.bus) new)) result) (sym first)
     (subst (λ (bus : Option BusTold). Does (DecidesRun source inputs) (desk before (Some was)) (desk after bus) result) (sym last)
-    (does_otherwise (AnswersRun given bytes) (DecidesRun source inputs) decides (desk before (Some was)) (desk after (Some now)) result h)))
+    (does_otherwise (AnswersRun given bytes) (DecidesRun source inputs) (decides_run source inputs files bytes given are from) (desk before (Some was)) (desk after (Some now)) result h)))
 
 -- and the other lent buses are those of the command
 pub others_run : (command : Command) (source : Source) (run : Run) (old new : List Slot) → command ≡ Running source run → OthersStay (Some run.bus) old new → OthersStay (bus_of command) old new

@@ -1,6 +1,6 @@
 -- What the files of a description come to: reading, patching, deriving, unfolding and checking one after the other, of which the first
 -- that finds a fault stops the rest, or the rows that they leave. Overlaps are faults where the words ask for it. This project's own order.
-use Rattle.std.specs.Prelude.{◌≡◌, ◌≤◌, ℕ, List, length, Option, Some, None, IfSome, Ok, Err, option_map, option_and_then, if◌then◌else◌, ⊤}
+use Rattle.std.specs.Prelude.{◌≡◌, ◌≤◌, ℕ, List, [], ◌∷◌, length, Option, Some, None, IfSome, Ok, Err, option_map, option_and_then, if◌then◌else◌, ⊤}
 use Rattle.pac_base.specs.declared.path.Step.{Step as NamedStep}
 use Rattle.derived_rows.specs.Deriving.{derived_rows}
 use Rattle.derived_rows.specs.Faults.{Fault as DeriveFault, IsFault, IsFaultless, too_many as too_many_derived}
@@ -133,6 +133,12 @@ pub record SourceBytes : Type 0 where
 -- those of the description that the words name
 abbrev pub bytes_of : Source → List ℕ → Option (List ℕ) → SourceBytes
 bytes_of source svd patch = record { svd = svd; patch = patch; policy = policy_of source }
+
+-- those of a description, of which these are the files: the second is its patch
+abbrev pub bytes_from : Source → List (List ℕ) → Option SourceBytes
+bytes_from source (svd ∷ []) = Some (bytes_of source svd None)
+bytes_from source (svd ∷ patch ∷ []) = Some (bytes_of source svd (Some patch))
+bytes_from source _ = None
 
 -- those that are handed in
 abbrev pub bytes_in : Description → SourceBytes

@@ -38,35 +38,19 @@ pub(crate) fn perform<S: Sink, B: Bus>(
     ensures headline { IfOk result (λ _. WritesText command.now inputs.now (S.written out.old) (S.written out.new)) }
 {
     match (command, inputs) {
-        (Command::Listing { source }, [svd]) => list(alloc, described(source, svd, None), out),
-        (Command::Listing { source }, [svd, patch]) => {
-            list(alloc, described(source, svd, Some(patch)), out)
-        }
-        (Command::Generating { source }, [svd]) => {
-            generate(alloc, described(source, svd, None), out)
-        }
-        (Command::Generating { source }, [svd, patch]) => {
-            generate(alloc, described(source, svd, Some(patch)), out)
-        }
+        (Command::Listing { source }, files) => list(alloc, described(source, files), out),
+        (Command::Generating { source }, files) => generate(alloc, described(source, files), out),
         (Command::Executing { run, .. }, [krate, script]) => {
             let place = place_of(buses.as_slice(), run.bus);
             let bus = &mut buses[place].bus;
             execute(alloc, krate.as_slice(), script.as_slice(), bus, out)
         }
-        (Command::Running { source, run }, [svd, script]) => {
-            let source = described(source, svd, None);
+        (Command::Running { source, run }, [files @ .., script]) => {
+            let source = described(source, files);
             let place = place_of(buses.as_slice(), run.bus);
             let bus = &mut buses[place].bus;
             run_against(alloc, source, script.as_slice(), bus, out)
         }
-        (Command::Running { source, run }, [svd, patch, script]) => {
-            let source = described(source, svd, Some(patch));
-            let place = place_of(buses.as_slice(), run.bus);
-            let bus = &mut buses[place].bus;
-            run_against(alloc, source, script.as_slice(), bus, out)
-        }
-        (Command::Listing { .. }, _) => unreachable!(),
-        (Command::Generating { .. }, _) => unreachable!(),
         (Command::Executing { .. }, _) => unreachable!(),
         (Command::Running { .. }, _) => unreachable!(),
     }

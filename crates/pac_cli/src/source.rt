@@ -1,5 +1,7 @@
-ghost use Rattle.std.specs.Prelude.{◌≡◌, option_map};
-ghost use Rattle.pac_cli.specs.Resolving.{bytes_in, bytes_of, policy_of};
+ghost use Rattle.std.specs.Prelude.{◌≡◌, Some};
+ghost use Rattle.pac_cli.specs.Inputs.{source_files};
+ghost use Rattle.pac_cli.specs.Resolving.{FitsLimits, bytes_from, bytes_in, policy_of};
+ghost use Rattle.pac_inputs.specs.Gathering.{FitLimits};
 
 use overlap_check::Policy;
 use pac_io::Bytes;
@@ -16,17 +18,24 @@ pub(crate) struct Description<'a> {
     pub(crate) policy: Policy,
 }
 
-/// The description that the words name, of which these are the files.
-pub(crate) fn described<'a>(source: &Source, svd: &'a Bytes, patch: Option<&'a Bytes>) -> Description<'a>
-    ensures { bytes_in result ≡ bytes_of source.now svd.now (option_map (λ bytes. bytes.now) patch) }
+/// The description that the words name, of which these are the files: the second is its patch.
+pub(crate) fn described<'a>(source: &Source, files: &'a [Bytes]) -> Description<'a>
+    requires { FitLimits (source_files source.now) files.now }
+    ensures files { bytes_from source.now files.entry.now ≡ Some (bytes_in result) }
+    ensures limits { FitsLimits (bytes_in result) }
 {
-    Description {
-        svd: svd.as_slice(),
-        patch: match patch {
-            Some(patch) => Some(patch.as_slice()),
-            None => None,
+    match files {
+        [svd] => Description {
+            svd: svd.as_slice(),
+            patch: None,
+            policy: policy_of(source),
         },
-        policy: policy_of(source),
+        [svd, patch] => Description {
+            svd: svd.as_slice(),
+            patch: Some(patch.as_slice()),
+            policy: policy_of(source),
+        },
+        _ => unreachable!(),
     }
 }
 
