@@ -12,14 +12,14 @@ returns-in-Executing-len2-clause-does g c =
     let lent = c.args.buses.now.items in
     let kind = c.in-Executing-len2.run'.bus in
     let slot = c.index_mut.result.now in
-    let is_place = c.place_of-place.ensures ∙ ap (λ (all : List _). place_in kind (kinds_of (slots_of told all))) c.as_slice-in-Executing-len2.ensures.value in
+    let is_place = c.place_of-place.ensures ∙ ap (λ (all : List _). place_in kind (kinds_of (slots_of told all))) c.as_slice.ensures.value in
     let there : missing_kind (bus_of c.args.command.now) (kinds_of (slots_of told lent)) ≡ None = c.requires.lent in
     let not_missing = subst (λ (command : Command). missing_kind (bus_of command) (kinds_of (slots_of told lent)) ≡ None) c.in-Executing-len2.is-0 there in
-    executed c.args.command.now c.in-Executing-len2.krate-0 c.in-Executing-len2.run' c.args.inputs.now c.as_slice-in-Executing-len2-2.result.now c.as_slice-in-Executing-len2-3.result.now
+    executed c.args.command.now c.in-Executing-len2.krate-0 c.in-Executing-len2.run' c.args.inputs.now c.as_slice-in-Executing-len2.result.now c.as_slice-in-Executing-len2-2.result.now
     (paper (g.S.Sink.written c.args.out.now) (g.S.Sink.faults c.args.out.now)) (paper (g.S.Sink.written c.execute.new.out) (g.S.Sink.faults c.execute.new.out))
     (slots_of told lent) _ (told slot.bus) (told c.execute.new.bus) c.execute.result c.in-Executing-len2.is-0
     (two_inputs c.args.inputs.now c.krate-item.result c.script-item.result (omega (arith, c.in-Executing-len2.len_at_least, c.in-Executing-len2.len_below)) c.krate-item.is c.script-item.is
-    ∙ ap₂ (λ a b. a ∷ b ∷ []) (sym c.as_slice-in-Executing-len2-2.ensures) (sym c.as_slice-in-Executing-len2-3.ensures))
+    ∙ ap₂ (λ a b. a ∷ b ∷ []) (sym c.as_slice-in-Executing-len2.ensures) (sym c.as_slice-in-Executing-len2-2.ensures))
     (told_before told kind lent slot c.execute.new.bus c.place_of-place.result is_place not_missing c.index_mut.ensures.value)
     (told_after told kind lent slot c.execute.new.bus c.place_of-place.result is_place not_missing c.index_mut.ensures.value)
     c.execute.ensures
@@ -30,9 +30,17 @@ returns-in-Executing-len2-clause-others g c =
     let lent = c.args.buses.now.items in
     let kind = c.in-Executing-len2.run'.bus in
     let slot = c.index_mut.result.now in
-    let is_place = c.place_of-place.ensures ∙ ap (λ (all : List _). place_in kind (kinds_of (slots_of told all))) c.as_slice-in-Executing-len2.ensures.value in
+    let is_place = c.place_of-place.ensures ∙ ap (λ (all : List _). place_in kind (kinds_of (slots_of told all))) c.as_slice.ensures.value in
     let there : missing_kind (bus_of c.args.command.now) (kinds_of (slots_of told lent)) ≡ None = c.requires.lent in
     let not_missing = subst (λ (command : Command). missing_kind (bus_of command) (kinds_of (slots_of told lent)) ≡ None) c.in-Executing-len2.is-0 there in
     others_executed c.args.command.now c.in-Executing-len2.krate-0 c.in-Executing-len2.run' _ _ c.in-Executing-len2.is-0
     (others_stay told kind lent slot c.execute.new.bus c.place_of-place.result is_place not_missing c.index_mut.ensures.value)
 
+pub returns-in-Generating-default-clause-does : goal.returns-in-Generating-default-clause-does
+returns-in-Generating-default-clause-does g c = ?
+
+pub returns-in-Running-len1-up-clause-does : goal.returns-in-Running-len1-up-clause-does
+returns-in-Running-len1-up-clause-does g c = ?
+
+pub returns-in-Running-len1-up-clause-others : goal.returns-in-Running-len1-up-clause-others
+returns-in-Running-len1-up-clause-others g c = ?
