@@ -1,4 +1,4 @@
-use Rattle.std.proofs.Common.{◌≡◌, ◌∷◌, [], ◌++◌, ◌-◌, List, length, take, None, ap, ap₂, sym, ◌∙◌, subst, arith}
+use Rattle.std.proofs.Common.{◌≡◌, ◌∷◌, [], ◌-◌, List, length, take, slice_index_or, rules, None, ap, ap₂, sym, ◌∙◌, subst, arith}
 use Rattle.pac_cli.specs.Buses.{bus_of, kinds_of, missing_kind, place_in, slots_of}
 use Rattle.pac_cli.specs.Worlds.{paper}
 use Rattle.pac_cli.specs.Resolving.{bytes_in}
@@ -54,13 +54,13 @@ returns-in-Running-len1-up-clause-does g c =
     let is_place = c.place_of-place-in-Running-len1-up.ensures ∙ ap (λ (all : List _). place_in kind (kinds_of (slots_of told all))) c.as_slice-in-Running-len1-up.ensures.value in
     let there : missing_kind (bus_of c.args.command.now) (kinds_of (slots_of told lent)) ≡ None = c.requires.lent in
     let not_missing = subst (λ (command : Command). missing_kind (bus_of command) (kinds_of (slots_of told lent)) ≡ None) c.in-Running-len1-up.is-0 there in
+    let script = c.as_slice-in-Running-len1-up-2.result.now in
+    let is_last : script ≡ slice_index_or c.args.inputs.now (length c.args.inputs.now - 1) script = search rules in
     has_run c.args.command.now c.in-Running-len1-up.source c.in-Running-len1-up.run' c.args.inputs.now (take (length c.args.inputs.now - 1) c.args.inputs.now)
-    (bytes_in c.described-source.result) c.as_slice-in-Running-len1-up-2.result.now
+    (bytes_in c.described-source.result) script
     (paper (g.S.Sink.written c.args.out.now) (g.S.Sink.faults c.args.out.now)) (paper (g.S.Sink.written c.run_against.new.out) (g.S.Sink.faults c.run_against.new.out))
     (slots_of told lent) _ (told slot.bus) (told c.run_against.new.bus) c.run_against.result c.in-Running-len1-up.is-0
-    (last_input c.args.inputs.now c.script-item-in-Running-1.result c.in-Running-len1-up.len_at_least c.script-item-in-Running-1.is
-    ∙ ap (λ (input : List _). take (length c.args.inputs.now - 1) c.args.inputs.now ++ input ∷ []) (sym c.as_slice-in-Running-len1-up-2.ensures))
-    c.described-source.ensures.files
+    (last_input c.args.inputs.now script c.in-Running-len1-up.len_at_least is_last) c.described-source.ensures.files
     (told_before told kind lent slot c.run_against.new.bus c.place_of-place-in-Running-len1-up.result is_place not_missing c.index_mut-in-Running-len1-up.ensures.value)
     (told_after told kind lent slot c.run_against.new.bus c.place_of-place-in-Running-len1-up.result is_place not_missing c.index_mut-in-Running-len1-up.ensures.value)
     c.run_against.ensures
