@@ -78,16 +78,28 @@ pub(crate) fn push_patch(page: &mut Page, fault: &PatchFault) -> Result<(), NoMe
         PatchFault::Incomplete { line, key } => {
             push_both(page, *line, b"missing ", key.as_str().as_bytes())
         }
-        PatchFault::StripClash { line, first, second } => {
+        PatchFault::StripClash {
+            line,
+            first,
+            second,
+        } => {
             push_both(page, *line, b"stripping makes ", first.bytes())?;
             push_name(page, b" and ", second.bytes(), b" alike")
         }
-        PatchFault::ArrayUneven { line, first, second } => {
+        PatchFault::ArrayUneven {
+            line,
+            first,
+            second,
+        } => {
             push_both(page, *line, b"uneven step from ", first.bytes())?;
             page.push(b" to ")?;
             page.push(second.bytes())
         }
-        PatchFault::ArrayUnlike { line, first, second } => {
+        PatchFault::ArrayUnlike {
+            line,
+            first,
+            second,
+        } => {
             push_on_line(page, *line, first.bytes())?;
             push_name(page, b" and ", second.bytes(), b" are unlike")
         }

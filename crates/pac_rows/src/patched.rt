@@ -277,12 +277,7 @@ const COMMANDS: &[(&[&str], u8, &str, &str)] = &[
         "T.b 0x40000004 32 rw 0x00000000\n",
         "",
     ),
-    (
-        &["list", "--strict", "x.svd"],
-        8,
-        "",
-        "T.A and T.B overlap",
-    ),
+    (&["list", "--strict", "x.svd"], 8, "", "T.A and T.B overlap"),
     (
         &["run", "x.svd", "s", "--strict", "--patch", "p.yaml"],
         0,
