@@ -70,8 +70,7 @@ same_resolution : OneReading → (source : SourceBytes) (one other : Resolution)
 same_resolution read source one other a b =
     let same : b.reading ≡ a.reading = read source.svd b.reading a.reading b.read a.read in
     let also : WherePassed (λ all. IsPatch source.patch b.patch) (by_reading a.reading) = subst (λ (reading : Reading). WherePassed (λ all. IsPatch source.patch b.patch) (by_reading reading)) same b.spelled in
-    let before : patched_to b.patch b.reading ≡ patched_to a.patch a.reading =
-    ap (patched_to b.patch) same ∙ same_patched source a.reading (by_reading a.reading) b.patch a.patch refl also a.spelled in
+    let before : patched_to b.patch b.reading ≡ patched_to a.patch a.reading = ap (patched_to b.patch) same ∙ same_patched source a.reading (by_reading a.reading) b.patch a.patch refl also a.spelled in
     a.comes
     ∙ same_judged source.policy (patched_to a.patch a.reading) a.fault b.fault a.judged (subst (WherePassed (IsJudged b.fault)) before b.judged)
     ∙ ap (resolution_of source.policy b.fault) (sym before)

@@ -12,6 +12,10 @@ use Rattle.pac_fault.specs.Counts.{many_text}
 abbrev pub on_patch_line : ℕ → List ℕ → List ℕ
 on_patch_line line said = codes "patch line " ++ (decimal line ++ (codes ": " ++ said))
 
+-- what is wrong with two names
+abbrev pub two_names : ℕ → List ℕ → List ℕ → List ℕ → List ℕ → List ℕ → List ℕ
+two_names line before first between second behind = on_patch_line line (before ++ (first ++ (between ++ (second ++ behind))))
+
 -- a file that is no block text
 unfoldable pub block_text : BlockFault → List ℕ
 block_text (block.Syntax line) = on_patch_line line (codes "syntax")
@@ -33,8 +37,8 @@ patch_text (patch.NoMatch line) = on_patch_line line (codes "nothing matches")
 patch_text (patch.AddExists line name) = on_patch_line line (name ++ codes " is there already")
 patch_text (patch.CopyMissing line name) = on_patch_line line (name ++ codes " to copy is missing")
 patch_text (patch.Incomplete line key) = on_patch_line line (codes "missing " ++ key)
-patch_text (patch.StripClash line first second) = on_patch_line line ((codes "stripping makes " ++ first) ++ (codes " and " ++ (second ++ codes " alike")))
-patch_text (patch.ArrayUneven line first second) = on_patch_line line ((codes "uneven step from " ++ first) ++ (codes " to " ++ second))
-patch_text (patch.ArrayUnlike line first second) = on_patch_line line (first ++ (codes " and " ++ (second ++ codes " are unlike")))
+patch_text (patch.StripClash line first second) = two_names line (codes "stripping makes ") first (codes " and ") second (codes " alike")
+patch_text (patch.ArrayUneven line first second) = two_names line (codes "uneven step from ") first (codes " to ") second (codes "")
+patch_text (patch.ArrayUnlike line first second) = two_names line (codes "") first (codes " and ") second (codes " are unlike")
 patch_text (patch.TooMany kind count) = many_text kind count
 patch_text patch.Memory = codes "out of memory"

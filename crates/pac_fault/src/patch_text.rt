@@ -1,5 +1,5 @@
 ghost use Rattle.std.specs.Prelude.{◌≡◌, ◌++◌, OnOk};
-ghost use Rattle.pac_fault.specs.PatchTexts.{block_text, command_text, on_patch_line, patch_text};
+ghost use Rattle.pac_fault.specs.PatchTexts.{block_text, command_text, on_patch_line, patch_text, two_names};
 
 use crate::count_text::push_many;
 use pac_base::NoMemory;
@@ -33,6 +33,22 @@ fn push_name(page: &mut Page, before: &[u8], name: &[u8], behind: &[u8]) -> Resu
     page.push(before)?;
     page.push(name)?;
     page.push(behind)
+}
+
+/// Appends a line of a patch, and what is wrong there with two names.
+fn push_names(
+    page: &mut Page,
+    line: u32,
+    before: &[u8],
+    first: &[u8],
+    between: &[u8],
+    second: &[u8],
+    behind: &[u8],
+) -> Result<(), NoMemory>
+    ensures { OnOk result (page.new ≡ page.old ++ two_names line before.now first.now between.now second.now behind.now) }
+{
+    push_both(page, line, before, first)?;
+    push_name(page, between, second, behind)
 }
 
 /// Appends why a file is no block text.
@@ -82,27 +98,41 @@ pub(crate) fn push_patch(page: &mut Page, fault: &PatchFault) -> Result<(), NoMe
             line,
             first,
             second,
-        } => {
-            push_both(page, *line, b"stripping makes ", first.bytes())?;
-            push_name(page, b" and ", second.bytes(), b" alike")
-        }
+        } => push_names(
+            page,
+            *line,
+            b"stripping makes ",
+            first.bytes(),
+            b" and ",
+            second.bytes(),
+            b" alike",
+        ),
         PatchFault::ArrayUneven {
             line,
             first,
             second,
-        } => {
-            push_both(page, *line, b"uneven step from ", first.bytes())?;
-            page.push(b" to ")?;
-            page.push(second.bytes())
-        }
+        } => push_names(
+            page,
+            *line,
+            b"uneven step from ",
+            first.bytes(),
+            b" to ",
+            second.bytes(),
+            b"",
+        ),
         PatchFault::ArrayUnlike {
             line,
             first,
             second,
-        } => {
-            push_on_line(page, *line, first.bytes())?;
-            push_name(page, b" and ", second.bytes(), b" are unlike")
-        }
+        } => push_names(
+            page,
+            *line,
+            b"",
+            first.bytes(),
+            b" and ",
+            second.bytes(),
+            b" are unlike",
+        ),
         PatchFault::TooMany { kind, count } => push_many(page, *kind, *count),
         PatchFault::Memory => page.push(b"out of memory"),
     }
