@@ -4,14 +4,14 @@ use Rattle.std.specs.List.{AllByRecursion, IsDistinct as AreDistinct, list_any}
 use Rattle.std.specs.Str.{bytes_eq}
 use Rattle.patch_edits.specs.Visits.{Below}
 use Rattle.patch_model.specs.Acts.{PatternItems}
-use Rattle.patch_sem.specs.Arrays.{first_uneven, ordered_by, put_in, unless_uneven, unless_unlike}
+use Rattle.patch_sem.specs.Arrays.{ordered_by, put_in}
 use Rattle.patch_sem.specs.declared.fault.PatchFault.{PatchFault}
 use Rattle.patch_sem.specs.declared.fault.PatchFault.TheVariants.{AddExists, Memory, NoMatch}
 use Rattle.patch_sem.specs.Selecting.{is_named, is_patched}
 use Rattle.patch_sem.specs.Steps.{Outcome, refused_if, unless_none}
-use Rattle.patch_arrays.proofs.Each.{each_append, each_exchanged, each_from, each_kept, each_map}
-use Rattle.patch_arrays.specs.Arranging.{Element, arranged, array_of, arraying_in, first_differing, is_member, is_taken, offset_of, placed_step, with_array}
-use Rattle.patch_arrays.specs.Makings.{Arranges, IsArranged, MakesArray, capped, key_of, unless_unfit}
+use Rattle.patch_arrays.proofs.Each.{each_exchanged, each_from, each_kept, each_map}
+use Rattle.patch_arrays.specs.Arranging.{Element, array_of, arraying_in, is_member, is_taken, offset_of}
+use Rattle.patch_arrays.specs.Makings.{Arranges, IsArranged, MakesArray, capped, unless_unfit}
 use Rattle.patch_arrays.specs.Members.{Seen, entry_key, under_key}
 use Rattle.patch_arrays.specs.Partings.{IsParted, put_at}
 use Rattle.patch_arrays.specs.declared.parting.Parted.{Parted}

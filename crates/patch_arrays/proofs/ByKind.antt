@@ -1,13 +1,12 @@
 -- What may become a member, kind by kind: whether it states `dim`, where it starts, and what it is as an array.
-use Rattle.std.proofs.Common.{◌≡◌, ℕ, ◌+◌, List, map, Option, None, Some, is_some, unwrap_or, refl, sym, ap, ap₂, ◌∙◌, arith}
+use Rattle.std.proofs.Common.{◌≡◌, ℕ, ◌+◌, List, map, None, Some, is_some, unwrap_or, sym, ap, ◌∙◌, arith}
 use Rattle.std.specs.List.{list_any}
 use Rattle.patch_arrays.proofs.Dimmed.{dim-with, dimmed-with, start-with}
-use Rattle.patch_arrays.specs.Arranging.{dimmed}
 use Rattle.patch_arrays.specs.Members.{Seen, with_dim}
 use Rattle.patch_arrays.specs.Unplaced.{IsMade, of_cluster, of_field, of_peripheral, of_register, places_with, tree_of, with_members}
 use Rattle.svd_model.proofs.Trees.{child_tree-cluster, child_tree-register, cluster_tree-is, cluster_tree-roll}
 use Rattle.svd_model.specs.declared.device.Child.{Child}
-use Rattle.svd_model.specs.declared.device.Child.TheOpen.{Child-F, Cluster-F, Item-F}
+use Rattle.svd_model.specs.declared.device.Child.TheOpen.{Cluster-F}
 use Rattle.svd_model.specs.declared.device.Child.TheVariants as children
 use Rattle.svd_model.specs.declared.device.Cluster.{Cluster, out-Cluster, roll-Cluster}
 use Rattle.svd_model.specs.declared.device.Field.{Field}
@@ -17,7 +16,7 @@ use Rattle.svd_model.specs.declared.device.Register.{Register}
 use Rattle.svd_model.specs.Facts.{is_dim}
 use Rattle.svd_model.specs.Keys.{Key}
 use Rattle.svd_model.specs.Stating.{start_of}
-use Rattle.svd_model.specs.Steps.{Kind, Step, cluster, field, peripheral, register}
+use Rattle.svd_model.specs.Steps.{Step, cluster, field, peripheral, register}
 use Rattle.svd_model.specs.Trees.{child_tree, cluster_places, cluster_tree, field_places, field_tree, item_under, peripheral_places, peripheral_tree, register_places, register_tree}
 use Rattle.svd_rows.specs.Forest.{Tree, siblings}
 

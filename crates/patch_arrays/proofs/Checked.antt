@@ -1,5 +1,5 @@
 -- Members that are checked one after the other.
-use Rattle.std.proofs.Common.{◌≡◌, ℕ, Bool, true, false, cond, List, [], ◌∷◌, map, find, length, Option, None, Some, option_map, Result, Ok, Err, inl, inr, ◌⊎◌, refl, sym, ap, ◌∙◌, subst, arith}
+use Rattle.std.proofs.Common.{◌≡◌, ℕ, Bool, true, false, cond, List, [], ◌∷◌, map, find, length, Option, None, Some, option_map, Result, Ok, Err, inl, inr, ◌⊎◌, refl, sym, ap, ◌∙◌, arith}
 use Rattle.patch_edits.specs.Visits.{Below}
 use Rattle.patch_sem.specs.Arrays.{first_step, first_uneven, is_uneven, neighbours, unless_uneven, unless_unlike}
 use Rattle.patch_sem.specs.declared.fault.PatchFault.{PatchFault}
@@ -44,18 +44,6 @@ module _ {A : Type 0} (under : A → Element) where
   -- the first that isn't like one
   abbrev pub unlike_in : Element → List A → Option Element
   unlike_in first rest = find (differs first) (map under rest)
-
-  pub unlike-none : (first : Element) (rest : List A) → length rest ≡ 0 → unlike_in first rest ≡ None
-  unlike-none first [] none = refl
-  unlike-none first (x ∷ rest) none = absurd (omega (arith, none))
-
-  pub unlike-step : (first : Element) (rest : List A) (other : A) (behind : List A) → rest ≡ other ∷ behind → differs first (under other) ≡ false → unlike_in first rest ≡ unlike_in first behind
-  unlike-step first rest other behind is alike =
-      ap (unlike_in first) is ∙ ap (λ (b : Bool). cond b (Some (under other)) (unlike_in first behind)) alike
-
-  pub unlike-found : (first : Element) (rest : List A) (other : A) (behind : List A) → rest ≡ other ∷ behind → differs first (under other) ≡ true → unlike_in first rest ≡ Some (under other)
-  unlike-found first rest other behind is unlike =
-      ap (unlike_in first) is ∙ ap (λ (b : Bool). cond b (Some (under other)) (unlike_in first behind)) unlike
 
 -- ---- both checks
 

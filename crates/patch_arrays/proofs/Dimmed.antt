@@ -1,15 +1,13 @@
 -- Members and steps that are set among the keys of an element, where an element states `dim`, and where it starts.
-use Rattle.std.proofs.Common.{◌≡◌, ℕ, ◌+◌, ◌*◌, ◌<◌, Bool, true, false, cond, not, nat_eq, nat_lt, ◌||◌, List, [], ◌∷◌, filter, length, set, Option, Some, None, option_and_then, refl, sym, ap, ap₂, ◌∙◌, arith, is_some, map, unwrap_or, lt-ltb, le-ltb, eq-eqb, ne_eqb, inl, inr}
+use Rattle.std.proofs.Common.{◌≡◌, ℕ, ◌+◌, ◌*◌, ◌<◌, Bool, true, false, cond, not, nat_eq, nat_lt, ◌||◌, List, [], ◌∷◌, filter, length, set, Option, Some, None, refl, sym, ap, ap₂, ◌∙◌, arith, is_some, unwrap_or, le-ltb, ne_eqb}
 use Rattle.std.specs.List.{AllByRecursion, list_any}
-use Rattle.patch_edits.specs.Visits.{Below}
-use Rattle.patch_arrays.proofs.Told.{placed-with, tree_at}
+use Rattle.patch_arrays.proofs.Told.{placed-with}
 use Rattle.patch_arrays.specs.Arranging.{dimmed, put_key}
 use Rattle.patch_arrays.specs.Unplaced.{Unplaced, places_with, with_members}
 use Rattle.svd_model.specs.Facts.{is_dim}
 use Rattle.svd_model.specs.Keys.{Key, rank, dim_count, dim_increment, base_address, at_offset}
-use Rattle.svd_model.specs.Properties.{nearest}
 use Rattle.svd_model.specs.Stating.{start_of, stated_base, stated_dim, stated_increment, stated_offset, value_of}
-use Rattle.svd_model.proofs.Stated.{found, place_at, stated_back}
+use Rattle.svd_model.proofs.Stated.{found, stated_back}
 use Rattle.svd_rows.proofs.Places.{stated-ranked, stated-set}
 use Rattle.svd_rows.specs.RowEdits.{added, some_pass}
 use Rattle.svd_rows.specs.Ranks.{IsPlaced, IsRanked, set_key, stated}

@@ -1,5 +1,5 @@
 -- What children become, as an edit of what stands below their parent.
-use Rattle.std.proofs.Common.{◌≡◌, ℕ, List, Result, sym, ap, subst}
+use Rattle.std.proofs.Common.{ℕ, List, Result, sym, ap, subst}
 use Rattle.patch_edits.specs.Edits.{Edited}
 use Rattle.patch_edits.specs.Visits.{Below}
 use Rattle.patch_model.specs.Acts.{PatternItems}

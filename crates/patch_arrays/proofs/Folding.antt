@@ -1,5 +1,5 @@
 -- What a walk with an array leaves is a description still.
-use Rattle.std.proofs.Common.{◌≡◌, ◌≤◌, ℕ, Bool, true, false, ◌||◌, List, [], ◌∷◌, map, IfOk, arith, Option, None, Some, Result, Ok, Err, refl, ap, ◌∙◌, subst}
+use Rattle.std.proofs.Common.{◌≡◌, ◌≤◌, ℕ, Bool, true, false, ◌||◌, List, [], ◌∷◌, IfOk, arith, Option, None, Some, Result, Ok, Err, refl, ap, ◌∙◌, subst}
 use Rattle.std.specs.List.{AllByRecursion}
 use Rattle.patch_sem.proofs.Outcomes.{both_ok}
 use Rattle.patch_sem.specs.declared.fault.PatchFault.{PatchFault}

@@ -18,7 +18,6 @@ use Rattle.svd_model.specs.declared.device.Variant.{Variant}
 use Rattle.svd_model.specs.declared.sibling.Sibling.{Sibling}
 use Rattle.svd_model.specs.Facts.{IsBounded, IsElement, IsPlacedOrDerived}
 use Rattle.svd_model.specs.Keys.{Key, at_offset, base_address}
-use Rattle.svd_model.specs.Properties.{nearest}
 use Rattle.svd_model.specs.Stating.{start_of, stated_base, stated_offset, value_of}
 use Rattle.svd_model.specs.Steps.{Kind, Step, set, value}
 use Rattle.svd_model.specs.Trees.{child_tree, cluster_places, cluster_tree, field_places, field_under, item_under, numbered, peripheral_places, peripheral_under, register_places, set_places, set_tree, step_of, value_places, value_tree}

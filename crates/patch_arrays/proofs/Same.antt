@@ -8,7 +8,7 @@ use Rattle.patch_arrays.proofs.Pointwise.{seen-pointwise}
 use Rattle.patch_arrays.proofs.Told.{alike-made, nothing-decided, numbered-decided, siblings-decided, tree-by-told, tree-made}
 use Rattle.patch_arrays.specs.Members.{is_alike}
 use Rattle.patch_arrays.specs.Siblings.{same_told}
-use Rattle.patch_arrays.specs.Unplaced.{IsMade, Unplaced, of_cluster, of_field, of_peripheral, of_register, of_set, of_value, places_with, same_element, same_field, same_item, same_named, same_set, same_tree, same_unplaced, same_value, tree_of}
+use Rattle.patch_arrays.specs.Unplaced.{IsMade, of_cluster, of_field, of_peripheral, of_register, of_set, of_value, places_with, same_element, same_field, same_item, same_named, same_set, same_tree, same_unplaced, same_value}
 use Rattle.svd_model.proofs.Copies.{sibling_eq}
 use Rattle.svd_model.proofs.Trees.{cluster_tree-is, item_under-is}
 use Rattle.svd_model.specs.declared.device.Cluster.{Cluster, out-Cluster}
@@ -20,8 +20,8 @@ use Rattle.svd_model.specs.declared.device.Values.{Values}
 use Rattle.svd_model.specs.declared.device.Variant.{Variant}
 use Rattle.svd_model.specs.declared.sibling.Sibling.{Sibling}
 use Rattle.svd_model.specs.Keys.{Key}
-use Rattle.svd_model.specs.Steps.{Step, Kind, field, set, value, same_kind, same_step}
-use Rattle.svd_model.specs.Trees.{child_tree, cluster_places, cluster_tree, field_places, field_tree, field_under, item_under, numbered, peripheral_places, peripheral_tree, register_places, register_tree, set_places, set_tree, step_of, value_places, value_tree}
+use Rattle.svd_model.specs.Steps.{Step, set, value, same_kind, same_step}
+use Rattle.svd_model.specs.Trees.{child_tree, cluster_places, cluster_tree, field_places, field_tree, field_under, item_under, numbered, peripheral_places, peripheral_tree, register_places, register_tree, set_places, set_tree, value_places, value_tree}
 use Rattle.svd_rows.specs.Forest.{Tree, leaf, siblings}
 
 values-decided : (xs ys : List Variant) → Decides (pointwise same_value xs ys) (numbered value 0 (map value_tree xs) ≡ numbered value 0 (map value_tree ys))

@@ -30,17 +30,6 @@ module _ {M : Type 0} (test : Sibling × M → Bool) where
     pub placed : (new : List Entry) → joined parted.members.items parted.place new parted.others.items left ≡ exchanged test new all
     pub within : parted.place ≤ length parted.others.items
 
-  pub parted-start : (all : List Entry) (parted : Parted M) → parted.members.items ≡ [] → parted.others.items ≡ [] → parted.place ≡ 0 → PartedUpTo all all parted
-  parted-start all parted none none_other first = record {
-    members = ap (λ (xs : List Entry). xs ++ filter test all) none;
-    others = ap (λ (xs : List Entry). xs ++ filter isnt all) none_other;
-    placed = λ new. ap₂ (λ (ms xs : List Entry). joined ms parted.place new xs all) none none_other;
-    within = no_more parted.place (length parted.others.items) first;
-  }
-    where
-      no_more : (a b : ℕ) → a ≡ 0 → a ≤ b
-      no_more a b e = omega (arith, e)
-
   take-front : (xs ys : List Entry) (n : ℕ) → n ≤ length xs → take n (xs ++ ys) ≡ take n xs
   take-front xs ys zero le = refl
   take-front [] ys (suc n) le = absurd (omega (arith, le))
@@ -149,10 +138,3 @@ member-is pattern child matched dimmed known one other =
 
 pub takes_by : {M : Type 0} (a b : Bool) (entry : Sibling × M) (old new : Parted M) → b ≡ a → Takes a entry old new → Takes b entry old new
 takes_by a b entry old new e taken = subst (λ (x : Bool). Takes x entry old new) (sym e) taken
-
-pub next_none : {A : Type 0} (members : List A) (here place : ℕ) → length members ≡ 0 → here ≡ next_place members here place
-next_none [] here place none = refl
-next_none (x ∷ members) here place none = absurd (omega (arith, none))
-
-pub next_some : {A : Type 0} (members : List A) (x : A) (others : List A) (here place : ℕ) → members ≡ x ∷ others → place ≡ next_place members here place
-next_some {A = A} members x others here place is = ap (λ (xs : List A). next_place xs here place) (sym is)

@@ -1,5 +1,5 @@
 -- What elements state beside their places: when they state the same, and so are alike, or are the same element.
-use Rattle.std.proofs.Common.{◌≡◌, ℕ, ◌+◌, ◌≤◌, zero, suc, Bool, true, false, ◌&&◌, cond, nat_eq, List, [], ◌∷◌, ◌++◌, map, filter, length, Option, Some, None, option_map, option_and_then, refl, sym, ap, ap₂, ◌∙◌, subst, arith}
+use Rattle.std.proofs.Common.{◌≡◌, ℕ, ◌+◌, ◌≤◌, Bool, true, false, ◌&&◌, cond, nat_eq, List, [], ◌∷◌, map, filter, length, Option, Some, None, option_map, option_and_then, refl, sym, ap, ap₂, ◌∙◌, subst, arith}
 use Rattle.std.specs.Bool.{Decides, one_answer}
 use Rattle.std.specs.Cmp.Lexicographic.{pointwise}
 use Rattle.std.specs.List.{AllByRecursion}
@@ -15,7 +15,7 @@ use Rattle.patch_arrays.specs.Unplaced.{Unplaced, places_with, same_dim, same_el
 use Rattle.svd_model.specs.declared.device.Dim.{Dim}
 use Rattle.svd_model.specs.declared.props.Props.{Props}
 use Rattle.svd_model.specs.Keys.{Key, rank, derived_from, dim_count, dim_increment, dim_index, base_address, at_offset, bit_width, alternate_of, alternate_group, register_size, register_access, reset_value, reset_mask, write_kind, read_action, value_usage, enumerated_value}
-use Rattle.svd_model.specs.Stating.{stated_size, stated_access, stated_reset, stated_mask, stated_kind, stated_base, stated_offset, stated_width, stated_dim, stated_increment, stated_usage, stated_number}
+use Rattle.svd_model.specs.Stating.{stated_size, stated_access, stated_reset, stated_mask, stated_kind, stated_offset, stated_width, stated_dim, stated_increment, stated_usage, stated_number}
 use Rattle.svd_model.specs.Steps.{Kind, Step, same_step}
 use Rattle.svd_model.specs.Trees.{numbered}
 use Rattle.svd_model.proofs.Stated.{place_at, stated_back}

@@ -1,5 +1,5 @@
 -- What an element states beside the place at which it stands, and when two elements state the same.
-use Rattle.std.specs.Prelude.{◌≡◌, ℕ, Bool, ◌&&◌, ◌==◌, nat_eq, List, [], ◌∷◌, ◌++◌, Option, None, Some, option_map}
+use Rattle.std.specs.Prelude.{◌≡◌, ℕ, Bool, ◌&&◌, nat_eq, List, [], ◌∷◌, ◌++◌, Option, None, Some, option_map}
 use Rattle.std.specs.Cmp.Lexicographic.{pointwise}
 use Rattle.std.specs.Option.{option_eq}
 use Rattle.std.specs.Str.{bytes_eq}
@@ -23,7 +23,6 @@ use Rattle.svd_model.specs.Trees.{dim_places, field_under, item_under, property_
 use Rattle.svd_rows.specs.Forest.{Tree}
 use Rattle.svd_rows.specs.Ranks.{stated}
 use Rattle.svd_rows.specs.Rows.{rows}
-use Rattle.svd_values.specs.declared.schema_word.Access.{Access}
 use Rattle.svd_values.specs.declared.schema_word.ReadAction.{ReadAction}
 use Rattle.svd_values.specs.declared.schema_word.Usage.{Usage}
 use Rattle.svd_values.specs.declared.schema_word.WriteKind.{WriteKind}
