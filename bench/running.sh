@@ -16,20 +16,15 @@ for megabytes in "$@"; do
     "$top/bench/description" "$megabytes" "$folder/device.svd"
     "$program" generate "$folder/device.svd" >"$folder/rust/device.rs" || exit 1
     "$program" list "$folder/device.svd" >"$folder/list" || exit 1
+    "$top/bench/calls" "$folder/list" >"$folder/many.script" || exit 1
     python3 - "$folder" <<'PYTHON'
-import re, sys
+import sys
 folder = sys.argv[1]
-places = [words[0] for words in map(str.split, filter(lambda line: line[0] != " ", open(f"{folder}/list")))
-          if words[3] == "rw" and "[" not in words[0]]
-calls = []
-for n in range(65536):
-    slot, *path = places[n * 7919 % len(places)].split(".")
-    calls.append(f"{slot}.{'.'.join(step + '()' for step in path)}.modify(|_, w| w.bits({n % 199}));")
-open(f"{folder}/many.script", "w").write("\n".join(calls) + "\n")
-with open(f"{folder}/rust/main.rs", "w") as out:
+calls = open(f"{folder}/many.script", encoding="utf-8").read().splitlines()
+groups = [calls[n:n + 256] for n in range(0, len(calls), 256)]
+with open(f"{folder}/rust/main.rs", "w", encoding="utf-8") as out:
     out.write("pub mod generic;\n#[allow(non_camel_case_types, non_snake_case, unused_imports, dead_code)]\nmod device;\n"
               "use generic::{recording, steal};\n")
-    groups = [calls[n:n + 256] for n in range(0, len(calls), 256)]
     for n, group in enumerate(groups):
         out.write(f"fn part{n}(device: &device::Peripherals) {{\n" + "".join(f"    device.{call}\n" for call in group) + "}\n")
     out.write("fn main() {\n    let device = unsafe { steal::<device::Peripherals>() };\n"

@@ -39,7 +39,7 @@ fn cycle_of(fault: NeedFault) -> OrderFault
 
 /// The order of elements, each of which has its source. `Cycle` comes exactly where one depends on itself, with the first
 /// that states a source.
-pub fn arrange(
+pub(crate) fn arrange(
     alloc: Global,
     entries: &[Entry<'_>],
     sources: &[Option<usize>],

@@ -44,7 +44,7 @@ fn source_at(sources: &[Option<usize>], number: usize) -> Option<usize>
 }
 
 /// The element as which each begins.
-pub fn counted_bases(
+pub(crate) fn counted_bases(
     alloc: Global,
     entries: &[Entry<'_>],
     elements: &[Element],
@@ -77,7 +77,7 @@ fn is_counted(kind: Option<Kind>) -> bool
 }
 
 /// Which elements are counted.
-pub fn counted_flags(alloc: Global, entries: &[Entry<'_>]) -> Result<Vec<bool>, NoMemory>
+pub(crate) fn counted_flags(alloc: Global, entries: &[Entry<'_>]) -> Result<Vec<bool>, NoMemory>
     ensures { IfOk result (λ made. TellsCounted (map plain entries.now) made.items) }
 {
     let mut made = Vec::new(alloc);

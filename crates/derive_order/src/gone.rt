@@ -310,7 +310,7 @@ fn walked(alloc: Global, elements: &[Element], keys: &[usize]) -> Result<Walk, N
 }
 
 /// For each element, the children of its base that it has no more, in some order.
-pub fn all_gone(
+pub(crate) fn all_gone(
     alloc: Global,
     elements: &[Element],
     keys: &[usize],

@@ -33,7 +33,7 @@ fn key_in(index: &Index<'_>, name: &[u8]) -> usize
 }
 
 /// The key of each element: elements of one name have one key.
-pub fn name_keys(alloc: Global, entries: &[Entry<'_>]) -> Result<Vec<usize>, NoMemory>
+pub(crate) fn name_keys(alloc: Global, entries: &[Entry<'_>]) -> Result<Vec<usize>, NoMemory>
     requires { 0 < length entries.now }
     ensures { IfOk result (λ keys. AreKeys (map plain entries.now) keys.items) }
 {

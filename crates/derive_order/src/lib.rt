@@ -10,9 +10,6 @@ mod judging;
 mod keys;
 mod limits;
 
-pub use arranged::{Arranged, arrange};
-pub use bases::{counted_bases, counted_flags};
+pub use arranged::Arranged;
 pub use fault::OrderFault;
-pub use gone::all_gone;
 pub use judging::{Derivable, judged};
-pub use keys::name_keys;
