@@ -45,7 +45,8 @@ fn push_names(
     second: &[u8],
     behind: &[u8],
 ) -> Result<(), NoMemory>
-    ensures { OnOk result (page.new ≡ page.old ++ two_names line before.now first.now between.now second.now behind.now) }
+    ensures { OnOk result (page.new ≡ page.old
+        ++ two_names line before.now first.now between.now second.now behind.now) }
 {
     push_both(page, line, before, first)?;
     push_name(page, between, second, behind)
