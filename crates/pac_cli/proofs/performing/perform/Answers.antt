@@ -36,32 +36,3 @@ returns-in-Executing-len2-clause-others g c =
     others_executed c.args.command.now c.in-Executing-len2.krate-0 c.in-Executing-len2.run' _ _ c.in-Executing-len2.is-0
     (others_stay told kind lent slot c.execute.new.bus c.place_of-place.result is_place not_missing c.index_mut.ensures.value)
 
-pub returns-in-Running-len2-clause-does : goal.returns-in-Running-len2-clause-does
-returns-in-Running-len2-clause-does g c =
-    let told = g.B.Bus.told in
-    let lent = c.args.buses.now.items in
-    let kind = c.in-Running-len2.run'.bus in
-    let slot = c.index_mut-in-Running-len2.result.now in
-    let is_place = c.place_of-place-in-Running-len2.ensures ∙ ap (λ (all : List _). place_in kind (kinds_of (slots_of told all))) c.as_slice-in-Running-len2.ensures.value in
-    let there : missing_kind (bus_of c.args.command.now) (kinds_of (slots_of told lent)) ≡ None = c.requires.lent in
-    let not_missing = subst (λ (command : Command). missing_kind (bus_of command) (kinds_of (slots_of told lent)) ≡ None) c.in-Running-len2.is-0 there in
-    has_run c.args.command.now c.in-Running-len2.source c.in-Running-len2.run' c.args.inputs.now c.as_slice-in-Running-len2-2.result.now c.as_slice-in-Running-len2-3.result.now
-    (paper (g.S.Sink.written c.args.out.now) (g.S.Sink.faults c.args.out.now)) (paper (g.S.Sink.written c.run_against.new.out) (g.S.Sink.faults c.run_against.new.out))
-    (slots_of told lent) _ (told slot.bus) (told c.run_against.new.bus) c.policy_of-policy.result c.run_against.result c.in-Running-len2.is-0 c.policy_of-policy.ensures
-    (two_inputs c.args.inputs.now c.svd-item-then-this-lt3-2.result c.script-item-then-this-lt3-2.result (omega (arith, c.in-Running-len2.len_at_least, c.in-Running-len2.len_below)) c.svd-item-then-this-lt3-2.is c.script-item-then-this-lt3-2.is
-    ∙ ap₂ (λ a b. a ∷ b ∷ []) (sym c.as_slice-in-Running-len2-2.ensures) (sym c.as_slice-in-Running-len2-3.ensures))
-    (told_before told kind lent slot c.run_against.new.bus c.place_of-place-in-Running-len2.result is_place not_missing c.index_mut-in-Running-len2.ensures.value)
-    (told_after told kind lent slot c.run_against.new.bus c.place_of-place-in-Running-len2.result is_place not_missing c.index_mut-in-Running-len2.ensures.value)
-    c.run_against.ensures
-
-pub returns-in-Running-len2-clause-others : goal.returns-in-Running-len2-clause-others
-returns-in-Running-len2-clause-others g c =
-    let told = g.B.Bus.told in
-    let lent = c.args.buses.now.items in
-    let kind = c.in-Running-len2.run'.bus in
-    let slot = c.index_mut-in-Running-len2.result.now in
-    let is_place = c.place_of-place-in-Running-len2.ensures ∙ ap (λ (all : List _). place_in kind (kinds_of (slots_of told all))) c.as_slice-in-Running-len2.ensures.value in
-    let there : missing_kind (bus_of c.args.command.now) (kinds_of (slots_of told lent)) ≡ None = c.requires.lent in
-    let not_missing = subst (λ (command : Command). missing_kind (bus_of command) (kinds_of (slots_of told lent)) ≡ None) c.in-Running-len2.is-0 there in
-    others_run c.args.command.now c.in-Running-len2.source c.in-Running-len2.run' _ _ c.in-Running-len2.is-0
-    (others_stay told kind lent slot c.run_against.new.bus c.place_of-place-in-Running-len2.result is_place not_missing c.index_mut-in-Running-len2.ensures.value)
