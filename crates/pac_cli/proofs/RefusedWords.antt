@@ -1,6 +1,6 @@
 -- No command with inputs is refused for its words.
-use Rattle.std.proofs.Common.{ℕ, ◌≡◌, List, [], ◌∷◌, Option, Some, None, refl}
-use Rattle.pac_cli.specs.Answers.{Answer, AnswersAsked, AnswersOnCrate, AnswersOnRows, AnswersWithout, Decides, DecidesOn, DecidesRun, DecidesSource, DecidesText, IsAnswer, Plan, generated, listed, no_command, refused, scripted, table_plan, text_plan, unless_mistyped}
+use Rattle.std.proofs.Common.{ℕ, ◌≡◌, Bool, true, false, List, [], ◌∷◌, Option, Some, None, refl}
+use Rattle.pac_cli.specs.Answers.{Answer, AnswersAsked, AnswersOnCrate, AnswersNumbered, AnswersOnRows, AnswersOnSample, AnswersWithout, Decides, DecidesOn, DecidesRun, DecidesSample, DecidesSource, DecidesText, IsAnswer, has_numbers, Plan, generated, listed, no_command, refused, scripted, table_plan, table_sum, text_plan, unless_mistyped}
 use Rattle.pac_cli.specs.Buses.{bus_of, missing_kind}
 use Rattle.frag_sem.specs.ScriptTyping.{LineFault, script_fault}
 use Rattle.frag_sem.specs.Surfaces.{Surface}
@@ -10,9 +10,10 @@ use Rattle.frag_tree.specs.declared.script.Script.{Script}
 use Rattle.pac_cli.specs.Resolving.{Resolution, stopped, resolved}
 use Rattle.pac_cli.specs.Scripts.{CrateReading, untyped, typed, ScriptReading, unread, spelled}
 use Rattle.pac_inputs.specs.Gathering.{FileMap, Gathering, inputs_are, is_too_long}
+use Rattle.pac_sample.specs.Wanted.{numbers_given}
 use Rattle.pac_words.specs.Commands.{command_of}
 use Rattle.pac_words.specs.declared.command.Command.{Command}
-use Rattle.pac_words.specs.declared.command.Command.TheVariants.{Executing, Generating, Listing, Running}
+use Rattle.pac_words.specs.declared.command.Command.TheVariants.{Executing, Generating, Listing, Running, Sampling}
 use Rattle.pac_words.specs.declared.command.BusKind.{BusKind}
 use Rattle.pac_words.specs.declared.command.Source.{Source}
 
@@ -62,11 +63,21 @@ not_for_run source (svd ∷ script ∷ []) h = not_on_rows h.resolution script h
 not_for_run source (svd ∷ patch ∷ script ∷ []) h = not_on_rows h.resolution script h.answered
 not_for_run source (svd ∷ patch ∷ script ∷ next ∷ inputs) h = h
 
+not_on_sample : (count : ℕ) (resolution : Resolution) → AnswersOnSample count resolution (refused no_command) → ⊥
+not_on_sample count (stopped why) h = cc h
+not_on_sample count (resolved rows) h = not_scripted (table_surface rows) (table_sum count rows) h.reading h.answered
+
+not_for_sample : (numbers : Option (ℕ × ℕ)) (inputs : List (List ℕ)) → DecidesSample numbers inputs (refused no_command) → ⊥
+not_for_sample None inputs h = h
+not_for_sample (Some numbers) [] h = not_on_sample numbers.1 h.resolution h.answered
+not_for_sample (Some numbers) (bytes ∷ inputs) h = h
+
 not_decided : (command : Command) (inputs : List (List ℕ)) → Decides command inputs (refused no_command) → ⊥
 not_decided (Listing source) inputs h = not_from listed not_listed source inputs h
 not_decided (Generating source) inputs h = not_from generated not_generated source inputs h
 not_decided (Executing krate run) inputs h = not_for_text inputs h
 not_decided (Running source run) inputs h = not_for_run source inputs h
+not_decided (Sampling number count) inputs h = not_for_sample (numbers_given number count) inputs h
 
 not_on : (command : Command) (gathering : Gathering) → DecidesOn command gathering (refused no_command) → ⊥
 not_on command (inputs_are inputs) h = not_decided command inputs h
@@ -76,9 +87,13 @@ not_without : (missing : Option BusKind) (command : Command) (told : Option File
 not_without (Some kind) command told h = cc h
 not_without None command told h = not_on command h.gathering h.decided
 
+not_numbered : (has : Bool) (command : Command) (kinds : List BusKind) (told : Option FileMap) → AnswersNumbered has command kinds told (refused no_command) → ⊥
+not_numbered false command kinds told h = cc h
+not_numbered true command kinds told h = not_without (missing_kind (bus_of command) kinds) command told h
+
 not_asked : (asked : Option Command) (kinds : List BusKind) (told : Option FileMap) → AnswersAsked asked kinds told (refused no_command) → asked ≡ None
 not_asked None kinds told h = refl
-not_asked (Some command) kinds told h = absurd (not_without (missing_kind (bus_of command) kinds) command told h)
+not_asked (Some command) kinds told h = absurd (not_numbered (has_numbers command) command kinds told h)
 
 pub refused_words_lem : (words : List (List ℕ)) (kinds : List BusKind) (told : Option FileMap) → IsAnswer words kinds told (refused no_command) → command_of words ≡ None
 refused_words_lem words kinds told h = not_asked (command_of words) kinds told h
