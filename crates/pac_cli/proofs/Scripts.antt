@@ -44,7 +44,6 @@ use Rattle.frag_emit.specs.Standing.{StandsFor}
 use Rattle.svd_model.specs.Keys.{Key}
 use Rattle.svd_model.specs.Steps.{Step}
 use Rattle.svd_rows.specs.Rows.{Row}
-use Rattle.overlap_check.specs.declared.fault.Policy.{Policy}
 use Rattle.pac_cli.specs.Resolving.{ComeTo, SourceBytes, bytes_from, Unresolved, stopped, resolved}
 use Rattle.pac_cli.proofs.OneReading.{no_fault}
 use Rattle.pac_cli.specs.Scripts.{no_crate, modules_too_deep, misfits, untyped, typed, CrateReadAs, IsTreeOf, no_statement, too_many_statements, mistyped, Unscripted, unread, spelled, ScriptReadAs}

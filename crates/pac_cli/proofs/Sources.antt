@@ -1,5 +1,6 @@
 -- The inputs of a command over a description: from its files to what they decide.
-use Rattle.std.proofs.Common.{ℕ, ◌≡◌, ◌≤◌, List, [], ◌∷◌, ◌++◌, length, Option, Some, None, Result, Ok, Err, IfOk, sym, subst}
+use Rattle.std.proofs.Common.{ℕ, ◌≡◌, ◌≤◌, ◌+◌, ◌-◌, List, [], ◌∷◌, ◌++◌, length, take, slice_index_or, Option, Some, None, Result, IfOk, sym, ap, ◌∙◌, subst, arith}
+use Rattle.std.proofs.lemmas.List.{take_all, take_more}
 use Rattle.std.proofs.lemmas.Result.{IfOk-weaker}
 use Rattle.pac_cli.specs.Answers.{Answer, AnswersRun, AnswersSource, Decides, DecidesRun, DecidesSource, generated, listed}
 use Rattle.pac_cli.specs.Buses.{Slot, bus_of, lent_for}
@@ -43,6 +44,12 @@ pub running_limits : (command : Command) (source : Source) (run : Run) (inputs f
 running_limits command source run inputs files script is are h =
     split_limits (source_files source) (script_file run) files script
     (subst (λ (all : List (List ℕ)). FitLimits (run_files source run) all) are (subst (λ (c : Command). FitLimits (files_of c) inputs) is h))
+
+-- the inputs are all but the last, and the last
+pub last_input : (inputs : List (List ℕ)) (one : List ℕ) → 1 ≤ length inputs → one ≡ slice_index_or inputs (length inputs - 1) one → inputs ≡ take (length inputs - 1) inputs ++ one ∷ []
+last_input inputs one some is =
+    let whole : take (length inputs - 1 + 1) inputs ≡ inputs = take_all (length inputs - 1 + 1) inputs (omega (arith, some)) in
+    sym whole ∙ take_more inputs (length inputs - 1) one (omega (arith, some)) ∙ ap (λ (input : List ℕ). take (length inputs - 1) inputs ++ input ∷ []) (sym is)
 
 -- ---- answers
 

@@ -10,7 +10,6 @@ use Rattle.dim_expand.specs.declared.fault.Cause.TheVariants.{Zero, TooLong, NoM
 use Rattle.dim_expand.specs.Faults.{first_fault, IsFirst as IsFirstDim}
 use Rattle.dim_expand.specs.Unfolding.{unfolded_rows}
 use Rattle.overlap_check.specs.Told.{faults, first_of, IsFirst}
-use Rattle.overlap_check.specs.declared.fault.Policy.{Policy}
 use Rattle.overlap_check.specs.declared.fault.CheckFault.{CheckFault}
 use Rattle.overlap_check.specs.declared.fault.CheckFault.TheVariants as check
 use Rattle.patch_model.specs.Acts.{Order}

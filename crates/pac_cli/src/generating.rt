@@ -19,11 +19,11 @@ pub(crate) fn generate<S: Sink>(
     out: &mut S,
 ) -> Result<(), PacFault>
     requires { FitsLimits (bytes_in source) }
-    ensures does { Does (AnswersSource generated (bytes_in source))
+    ensures does { Does (AnswersSource generated (bytes_in source.entry))
         (alone (paper (S.written out.old) (S.faults out.old)))
         (alone (paper (S.written out.new) (S.faults out.new)))
         result }
-    ensures headline { IfOk result (λ _. WritesTextFor (bytes_in source) (S.written out.old) (S.written out.new)) }
+    ensures headline { IfOk result (λ _. WritesTextFor (bytes_in source.entry) (S.written out.old) (S.written out.new)) }
 {
     let state = resolve(alloc, source)?;
     print_text(alloc, &state, out)?;

@@ -17,7 +17,7 @@ pub(crate) fn list<S: Sink>(
     out: &mut S,
 ) -> Result<(), PacFault>
     requires { FitsLimits (bytes_in source) }
-    ensures { Does (AnswersSource listed (bytes_in source))
+    ensures { Does (AnswersSource listed (bytes_in source.entry))
         (alone (paper (S.written out.old) (S.faults out.old)))
         (alone (paper (S.written out.new) (S.faults out.new)))
         result }

@@ -21,7 +21,7 @@ use yaml_block::read_block;
 /// the other. The first that refuses decides.
 pub(crate) fn resolve(alloc: Global, source: Description<'_>) -> Result<Checked, PacFault>
     requires { FitsLimits (bytes_in source) }
-    ensures { Resolves (bytes_in source) result }
+    ensures { Resolves (bytes_in source.entry) result }
 {
     let described = read_device(alloc, source.svd)?;
     let patched = patched(alloc, described, source.patch)?;
@@ -34,7 +34,7 @@ pub(crate) fn resolve(alloc: Global, source: Description<'_>) -> Result<Checked,
 /// The description that the patch leaves, where there is one.
 fn patched(alloc: Global, state: Described, patch: Option<&[u8]>) -> Result<Patched, PacFault>
     requires { IfSome patch (λ bytes. length bytes.now ≤ 67_108_864) }
-    ensures { Patches state (option_map (λ bytes. bytes.now) patch) result }
+    ensures { Patches state (option_map (λ bytes. bytes.now) patch.entry) result }
 {
     match patch {
         Some(bytes) => {

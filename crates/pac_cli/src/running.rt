@@ -29,7 +29,7 @@ pub(crate) fn run_against<B: Bus, S: Sink>(
 ) -> Result<(), PacFault>
     requires description { FitsLimits (bytes_in source) }
     requires script { length script.now ≤ 67_108_864 }
-    ensures { Does (AnswersRun (bytes_in source) script.now)
+    ensures { Does (AnswersRun (bytes_in source.entry) script.now)
         (desk (paper (S.written out.old) (S.faults out.old)) (Some (B.told bus.old)))
         (desk (paper (S.written out.new) (S.faults out.new)) (Some (B.told bus.new)))
         result }
