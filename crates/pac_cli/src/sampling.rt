@@ -66,7 +66,7 @@ fn sum_up<B: Bus, S: Sink>(
     let ready = prepare(alloc, krate, script, bus)?;
     match run(ready, bus) {
         Ok(events) => {
-            write_summary(alloc, count, &events, out)?;
+            write_summary(alloc, count, events.as_slice(), out)?;
             Ok(())
         }
         Err(fault) => Err(PacFault::Bus { done: fault.done }),
