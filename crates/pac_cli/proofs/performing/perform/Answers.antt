@@ -76,3 +76,20 @@ returns-in-Running-len1-up-clause-others g c =
     let not_missing = subst (λ (command : Command). missing_kind (bus_of command) (kinds_of (slots_of told lent)) ≡ None) c.in-Running-len1-up.is-0 there in
     others_run c.args.command.now c.in-Running-len1-up.source c.in-Running-len1-up.run' _ _ c.in-Running-len1-up.is-0
     (others_stay told kind lent slot c.run_against.new.bus c.place_of-place-in-Running-len1-up.result is_place not_missing c.index_mut-in-Running-len1-up.ensures.value)
+
+pub returns-in-Sampling-default-clause-does : goal.returns-in-Sampling-default-clause-does
+returns-in-Sampling-default-clause-does g c =
+    let told = g.B.Bus.told in
+    let lent = c.args.buses.now.items in
+    let slot = c.index_mut-in-Sampling-default.result.now in
+    let is_place = c.place_of-place-in-Sampling-default.ensures ∙ ap (λ (all : List _). place_in bus.Memory (kinds_of (slots_of told all))) c.as_slice-in-Sampling-default.ensures.value in
+    let there : missing_kind (bus_of c.args.command.now) (kinds_of (slots_of told lent)) ≡ None = c.requires.lent in
+    let not_missing = subst (λ (command : Command). missing_kind (bus_of command) (kinds_of (slots_of told lent)) ≡ None) c.in-Sampling-default.is-0 there in
+    sampled c.args.command.now c.in-Sampling-default.number c.in-Sampling-default.count c.args.inputs.now (c.in-Some.number, c.in-Some.count)
+    (paper (g.S.Sink.written c.args.out.now) (g.S.Sink.faults c.args.out.now)) (paper (g.S.Sink.written c.sample.new.out) (g.S.Sink.faults c.sample.new.out))
+    (slots_of told lent) _ (told slot.bus) (told c.sample.new.bus) c.sample.result c.in-Sampling-default.is-0
+    (no_inputs c.args.command.now c.in-Sampling-default.number c.in-Sampling-default.count c.args.inputs.now c.in-Sampling-default.is-0 c.requires.limits)
+    (sym c.numbers_of.ensures.given ∙ c.in-Some.is)
+    (told_before told bus.Memory lent slot c.sample.new.bus c.place_of-place-in-Sampling-default.result is_place not_missing c.index_mut-in-Sampling-default.ensures.value)
+    (told_after told bus.Memory lent slot c.sample.new.bus c.place_of-place-in-Sampling-default.result is_place not_missing c.index_mut-in-Sampling-default.ensures.value)
+    c.sample.ensures

@@ -1,5 +1,5 @@
 -- A sample: from its run to what was done, and from its two words to what they decide.
-use Rattle.std.proofs.Common.{ℕ, ◌≡◌, ◌×◌, List, [], ◌∷◌, Option, Some, None, Result, IfSome, true, refl, sym, ap, ◌∙◌, subst, inl, inr, is_some}
+use Rattle.std.proofs.Common.{ℕ, ◌≡◌, ◌≤◌, length, List, [], ◌∷◌, Option, Some, None, Result, IfSome, true, refl, sym, ap, ◌∙◌, subst, inl, inr, is_some}
 use Rattle.std.specs.Prelude.{◌↔◌}
 use Rattle.frag_emit.specs.Standing.{StandsFor}
 use Rattle.frag_eval.specs.Preparing.{Prepared, Refused}
@@ -15,6 +15,9 @@ use Rattle.pac_fault.specs.Classes.{class_of}
 use Rattle.pac_fault.specs.declared.fault.PacFault.{PacFault}
 use Rattle.pac_fault.specs.declared.fault.PacFault.TheVariants.{Memory}
 use Rattle.pac_io.proofs.WrittenUpTo.{none_written}
+use Rattle.overlap_check.specs.declared.fault.Policy.TheVariants.{Loose}
+use Rattle.pac_sample.proofs.Lengths.{script_length, text_length}
+use Rattle.pac_sample.specs.Description.{sample_text}
 use Rattle.pac_sample.specs.Script.{sample_script}
 use Rattle.pac_sample.specs.Summary.{summary}
 use Rattle.pac_sample.specs.Wanted.{AreNumbers, IsCount, numbers_given}
@@ -24,7 +27,7 @@ use Rattle.svd_rows.specs.Rows.{Row}
 use Rattle.pac_cli.specs.Answers.{Answer, AnswersSample, AnswersScript, Decides, DecidesSample, Plan, does, has_numbers, refused, sample_bytes, table_sum, text_sum, unresolved}
 use Rattle.pac_cli.specs.Buses.{OthersStay, Slot, bus_of, lent_for}
 use Rattle.pac_cli.specs.Inputs.{files_of}
-use Rattle.pac_cli.specs.Resolving.{ComeTo, Unresolved, resolved, stopped}
+use Rattle.pac_cli.specs.Resolving.{ComeTo, FitsLimits, SourceBytes, Unresolved, resolved, stopped}
 use Rattle.pac_cli.specs.Stages.{Does, DoesNot, MakesAll, MakesFirst}
 use Rattle.pac_cli.specs.Worlds.{Paper, desk}
 use Rattle.pac_cli.proofs.Scripts.{makes_all, makes_first}
@@ -120,3 +123,19 @@ sampled command number_word count_word inputs numbers before after old new was n
 -- and the other lent buses are those of the command
 pub others_sampled : (command : Command) (number_word count_word : List ℕ) (old new : List Slot) → command ≡ Sampling number_word count_word → OthersStay (Some bus.Memory) old new → OthersStay (bus_of command) old new
 others_sampled command number_word count_word old new is h = subst (λ (c : Command). OthersStay (bus_of c) old new) (sym is) h
+
+-- ---- the bytes of a sample
+
+-- these bytes, without a patch and where no overlaps are asked for
+abbrev pub loosely : List ℕ → SourceBytes
+loosely svd = record { svd = svd; patch = None; policy = Loose }
+
+-- those that are made of numbers are the sample's, and within the limits
+pub made_bytes : (svd : List ℕ) (number count : ℕ) → svd ≡ sample_text number count → loosely svd ≡ sample_bytes number count
+made_bytes svd number count is = ap loosely is
+
+pub made_fits : (svd : List ℕ) (number count : ℕ) → IsCount count → svd ≡ sample_text number count → FitsLimits (loosely svd)
+made_fits svd number count is made = record { svd = subst (λ (text : List ℕ). length text ≤ 67108864) (sym made) (text_length number count is); patch = tt }
+
+pub script_fits : (script : List ℕ) (count : ℕ) → IsCount count → script ≡ sample_script count → length script ≤ 67108864
+script_fits script count is made = subst (λ (text : List ℕ). length text ≤ 67108864) (sym made) (script_length count is)
