@@ -45,8 +45,8 @@ module _ (count : ℕ) (krate : Crate) (text : Script) (was ready : BusTold) (of
 
   -- where the bus failed, the first were made
   pub sums_first : (now : BusTold) (done : ℕ) (events : List Event) → Stopped ready now of.krate of.script done events → MakesFirst (text_sum count (crate_tree krate) text) events (Some was) (Some now)
-  sums_first now done events stopped =
-      let made = makes_first krate text was ready of prepared now done events stopped in
+  sums_first now done events broken =
+      let made = makes_first krate text was ready of prepared now done events broken in
       record { next = made.next; later = made.later; first = made.first; is_access = made.is_access; broke = made.broke }
 
 -- memory was wanting to prepare it

@@ -5,6 +5,8 @@ use Rattle.pac_cli.specs.Resolving.{bytes_in}
 use Rattle.pac_cli.proofs.Sources.{has_generated, last_input}
 use Rattle.pac_cli.proofs.Scripts.{executed, has_run, others_executed, others_run, two_inputs}
 use Rattle.pac_cli.proofs.Slots.{others_stay, told_after, told_before}
+use Rattle.pac_cli.proofs.Samples.{no_inputs, sampled}
+use Rattle.pac_words.specs.declared.command.BusKind.TheVariants as bus
 use Rattle.pac_words.specs.declared.command.Command.{Command}
 use Rattle.pac_cli.proofs.performing.perform.Goals as goal
 
