@@ -18,9 +18,9 @@ joined a b xs ys first second = let both = length-append xs ys in omega (arith, 
 in_element : (b : ℕ) (tag inside : List ℕ) → length tag ≤ 20 → length inside ≤ b → length (element tag inside) ≤ b + 45
 unfolding start_tag end_tag
 in_element b tag inside named held =
-    let open = joined 20 1 tag (codes ">") named (omega arith) in
-    let start = joined 1 21 (codes "<") (tag ++ codes ">") (omega arith) open in
-    let end = joined 2 21 (codes "</") (tag ++ codes ">") (omega arith) open in
+    let closed = joined 20 1 tag (codes ">") named (omega arith) in
+    let start = joined 1 21 (codes "<") (tag ++ codes ">") (omega arith) closed in
+    let end = joined 2 21 (codes "</") (tag ++ codes ">") (omega arith) closed in
     let rest = joined b 23 inside (codes "</" ++ (tag ++ codes ">")) held end in
     let whole = joined 22 (b + 23) (codes "<" ++ (tag ++ codes ">")) (inside ++ (codes "</" ++ (tag ++ codes ">"))) start rest in
     omega (arith, whole)
