@@ -79,9 +79,18 @@ register_length number j =
 parts_length : (part : ℕ → List ℕ) (most end : ℕ) → ((n : ℕ) → n < end → length (part n) ≤ most) → (first count : ℕ) → first + count ≤ end
     → length (flat_map part (range_with_len first count)) ≤ count * most
 parts_length part most end each first zero inside = omega arith
-parts_length part most end each first (suc count) inside =
-    joined most (count * most) (part first) (flat_map part (range_with_len (first + 1) count)) (each first (omega (arith, inside)))
-    (parts_length part most end each (first + 1) count (omega (arith, inside)))
+parts_length part most end each first (suc count) inside = more
+  where
+    both : length (part first ++ flat_map part (range_with_len (first + 1) count)) ≤ most + count * most
+    both =
+        joined most (count * most) (part first) (flat_map part (range_with_len (first + 1) count)) (each first (omega (arith, inside)))
+        (parts_length part most end each (first + 1) count (omega (arith, inside)))
+
+    product : suc count * most ≡ most + count * most
+    product = omega arith
+
+    more : length (flat_map part (range_with_len first (suc count))) ≤ suc count * most
+    more = subst (λ n. length (part first ++ flat_map part (range_with_len (first + 1) count)) ≤ n) (sym product) both
 
 -- ---- a peripheral
 
@@ -119,9 +128,9 @@ text_length number count is =
 line_length : (j : ℕ) → j < 65536 → length (script_line j) ≤ 77
 unfolding script_line register_place
 line_length j below =
-    joined 43 34 _ (codes "().modify(|_, w| w.b().bits(1));\n")
-    (joined 1 42 (codes "P") _ (omega arith)
-    (joined 20 22 (decimal (j / 64)) _ (digits_of (j / 64) (omega (arith, below)))
+    joined 43 34 (codes "P" ++ (decimal (j / 64) ++ (codes ".r" ++ decimal (j % 64)))) (codes "().modify(|_, w| w.b().bits(1));\n")
+    (joined 1 42 (codes "P") (decimal (j / 64) ++ (codes ".r" ++ decimal (j % 64))) (omega arith)
+    (joined 20 22 (decimal (j / 64)) (codes ".r" ++ decimal (j % 64)) (digits_of (j / 64) (omega (arith, below)))
     (joined 2 20 (codes ".r") (decimal (j % 64)) (omega arith) (digits_of (j % 64) (omega arith)))))
     (omega arith)
 
