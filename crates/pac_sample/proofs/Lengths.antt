@@ -79,18 +79,11 @@ register_length number j =
 parts_length : (part : ℕ → List ℕ) (most end : ℕ) → ((n : ℕ) → n < end → length (part n) ≤ most) → (first count : ℕ) → first + count ≤ end
     → length (flat_map part (range_with_len first count)) ≤ count * most
 parts_length part most end each first zero inside = omega arith
-parts_length part most end each first (suc count) inside = more
-  where
-    both : length (part first ++ flat_map part (range_with_len (first + 1) count)) ≤ most + count * most
-    both =
-        joined most (count * most) (part first) (flat_map part (range_with_len (first + 1) count)) (each first (omega (arith, inside)))
-        (parts_length part most end each (first + 1) count (omega (arith, inside)))
-
-    product : suc count * most ≡ most + count * most
-    product = omega arith
-
-    more : length (flat_map part (range_with_len first (suc count))) ≤ suc count * most
-    more = subst (λ n. length (part first ++ flat_map part (range_with_len (first + 1) count)) ≤ n) (sym product) both
+parts_length part most end each first (suc count) inside =
+    let product : suc count * most ≡ most + count * most = omega arith in
+    subst (λ n. length (part first ++ flat_map part (range_with_len (first + 1) count)) ≤ n) (sym product)
+    (joined most (count * most) (part first) (flat_map part (range_with_len (first + 1) count)) (each first (omega (arith, inside)))
+    (parts_length part most end each (first + 1) count (omega (arith, inside))))
 
 -- ---- a peripheral
 
