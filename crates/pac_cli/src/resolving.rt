@@ -42,7 +42,7 @@ fn patched(alloc: Global, state: Described, patch: Option<&[u8]>) -> Result<Patc
             let patched = apply(alloc, state, &commands)?;
             Ok(patched)
         }
-        None => Ok(Patched::of(state)),
+        None => Ok(Patched::new(state.into_device())),
     }
 }
 

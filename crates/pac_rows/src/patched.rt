@@ -206,6 +206,17 @@ const REFUSED: &[(&str, &str, &str)] = &[
         "T:\n  _array:\n    C*: {}\n",
         "patch line 3: C0 and C1 are unlike",
     ),
+    (
+        "<register><name>C0</name><addressOffset>0</addressOffset><fields><field><name>F</name><bitOffset>0</bitOffset></field></fields></register><register><name>C1</name><addressOffset>4</addressOffset></register>",
+        "T:\n  _array:\n    C*: {}\n",
+        "patch line 3: C0 and C1 are unlike",
+    ),
+    // A width that isn't stated is no key, though it is 1 in the end.
+    (
+        "<register><name>A</name><addressOffset>0</addressOffset><fields><field><name>F0</name><bitOffset>0</bitOffset><bitWidth>1</bitWidth></field><field><name>F1</name><bitOffset>1</bitOffset></field></fields></register>",
+        "T:\n  A:\n    _array:\n      F?: {}\n",
+        "patch line 4: F0 and F1 are unlike",
+    ),
     // A field has no children for a patch.
     (
         F_AND_G,

@@ -25,4 +25,4 @@ returns-in_ok-patched-in-Some c =
     c.in_ok-patched-in-Some.patched c.in_ok-patched-in-Some.ensures.rows)
 
 pub returns-in-None : goal.returns-in-None
-returns-in-None c = rw (c.in-None.is, c.of.ensures) (unpatched_rows c.args.state)
+returns-in-None c = rw (c.in-None.is, c.new.ensures, c.into_device.ensures.rows) (unpatched_rows c.args.state)
