@@ -1,7 +1,8 @@
 #!/usr/bin/env bash
 # The checks that need the built program: each description under examples/ that has a listing or a crate text beside
-# it is listed or printed so, each script there makes its events, real files and outputs that fail are told so, and `./pac` works through a symbolic link. Says nothing where
-# all hold, and ends with 1 where one doesn't.
+# it is listed or printed so, with the patch of its name where there is one, each script there makes its events, real
+# files and outputs that fail are told so, and `./pac` works through a symbolic link. Says nothing where all hold, and
+# ends with 1 where one doesn't.
 top="$(cd "$(dirname "$0")/.." && pwd)" || exit 1
 program="$top/crates/pac_main/out/pac_main"
 failed=0
@@ -15,10 +16,17 @@ fail() {
 folder="$(mktemp -d)" || exit 1
 trap 'rm -rf "$folder"' EXIT
 
+# patch_of DESCRIPTION: the words that name the patch which stands beside it, in $options.
+patch_of() {
+    options=()
+    [ ! -f "${1%.svd}.yaml" ] || options=(--patch "${1%.svd}.yaml")
+}
+
 listed=0
 for listing in "$top"/examples/*.txt; do
     example="examples/$(basename "$listing" .txt).svd"
-    "$program" list "$top/$example" >"$folder/out" 2>"$folder/err"
+    patch_of "$top/$example"
+    "$program" list "$top/$example" "${options[@]}" >"$folder/out" 2>"$folder/err"
     status=$?
     [ "$status" -eq 0 ] || fail "$example: status $status"
     diff "$listing" "$folder/out" >&2 || fail "$example: its listing differs"
@@ -30,7 +38,8 @@ done
 generated=0
 for text in "$top"/examples/*.rs; do
     example="examples/$(basename "$text" .rs).svd"
-    "$program" generate "$top/$example" >"$folder/out" 2>"$folder/err"
+    patch_of "$top/$example"
+    "$program" generate "$top/$example" "${options[@]}" >"$folder/out" 2>"$folder/err"
     status=$?
     [ "$status" -eq 0 ] || fail "$example: status $status"
     diff "$text" "$folder/out" >&2 || fail "$example: its crate text differs"
@@ -54,7 +63,8 @@ ran=0
 for events in "$top"/examples/*.events; do
     example="$top/examples/$(basename "$events" .events)"
     prints "$events" "exec of $example.script" exec "$example.rs" "$example.script"
-    prints "$events" "run of $example.script" run "$example.svd" "$example.script"
+    patch_of "$example.svd"
+    prints "$events" "run of $example.script" run "$example.svd" "$example.script" "${options[@]}"
     ran=$((ran + 1))
 done
 [ "$ran" -gt 0 ] || fail "no events stand under examples/"
@@ -95,6 +105,14 @@ for member in 16 15; do
     [ "$member" -eq 15 ] || fails 10 'script line 1: index out of range$' 'an index behind the last'
 done
 [ "$status" -eq 0 ] || fail "the last of an array: status $status"
+
+# What a patch mends is refused without it, and a patch that is no block text at all.
+"$program" list "$top/examples/capture.svd" >"$folder/out" 2>"$folder/err"
+status=$?
+fails 8 'TIM8.TIM_CR2: address is not a multiple of the width$' 'a register that a patch mends'
+"$program" list "$top/examples/timer.svd" --patch "$top/examples/timer.svd" >"$folder/out" 2>"$folder/err"
+status=$?
+fails 7 'patch line 1: syntax$' 'a patch that is no block text'
 
 # No words are refused with the usage, through a link and from another folder too.
 ln -s "$top/pac" "$folder/pac"

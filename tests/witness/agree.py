@@ -5,10 +5,10 @@
     python3 agree.py [--edition YEAR] known
 
 Each case is a description, for some a patch, and a script. With --program its crate text is what that program prints, and must
-be the text that crate_text.py prints; without, and where the program doesn't print such a one yet, it is the latter. Texts and
-scripts are compiled by rustc with support/generic.rs and run on its recording bus: with every answer 0, as memory, and with
-random answers; the events must be those of script.py, which reads the description and no text. Each --command of the program
-must print them too. `known` tries what rustc is known to refuse.
+be the text that crate_text.py prints; without it is the latter. Texts and scripts are compiled by rustc with
+support/generic.rs and run on its recording bus: with every answer 0, as memory, and with random answers; the events must be
+those of script.py, which reads the description and no text. Each --command of the program must print them too. `known` tries
+what rustc is known to refuse.
 """
 
 import argparse
@@ -30,11 +30,6 @@ HERE = pathlib.Path(__file__).resolve().parent
 SUPPORT = HERE.parent.parent / "support" / "generic.rs"
 # So many cases are compiled at once.
 EACH = 50
-# What the program doesn't print yet, and how a description shows it; an entry goes with the work that builds it.
-UNPRINTED = {
-    "patches": lambda files: "patch" in files,
-}
-
 MAIN = """
 pub mod generic;
 mod texts;
@@ -166,8 +161,6 @@ class Program:
     def faults(self, case):
         """Where a command prints other events."""
         for command in self.commands:
-            if command == "run" and unprinted(case.files):
-                continue
             source = {"exec": {"crate": case.text}, "run": case.files}[command]
             for bus in ("zero", "memory"):
                 got, line = self.prints(command, "--bus", bus, **source, script=case.script)
@@ -175,14 +168,10 @@ class Program:
                     yield case.name, f"{command} on the bus {bus}: {line}\n{got}"
 
 
-def unprinted(files):
-    return any(shows(files) for shows in UNPRINTED.values())
-
-
 def text_of(name, files, program, faults):
     """The crate text of a description, the program's where it prints one: both must be the same."""
     own = crate_text.printed(resolved(files))
-    if program is None or unprinted(files):
+    if program is None:
         return own
     printed, line = program.prints("generate", **files)
     if line or printed != own:

@@ -14,7 +14,7 @@ fn fault(alloc: Global, text: &str, policy: Policy) -> Result<Option<PacFault>, 
         return Ok(None);
     }
     let described = read_device(alloc, text.as_bytes())?;
-    let derived = match derive(alloc, Patched::of(described)) {
+    let derived = match derive(alloc, Patched::new(described.into_device())) {
         Ok(derived) => derived,
         Err(back) => return Ok(Some(PacFault::Derive(back.fault))),
     };

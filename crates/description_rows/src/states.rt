@@ -25,7 +25,7 @@ fn a_vendors_file_is_read_copied_and_derived(rt: HostRuntime) -> Result<(), Fail
     let read = read_device(rt.alloc(), VENDOR.as_bytes())?;
     let copy = read.copy(rt.alloc())?;
     assert!(rt; is_vendors(copy.device(), 13));
-    let derived = derive(rt.alloc(), Patched::of(copy));
+    let derived = derive(rt.alloc(), Patched::new(copy.into_device()));
     assert!(rt; is_derived(&derived));
     Ok(())
 }

@@ -12,22 +12,24 @@ use crate::matching::fits;
 use crate::naming::{has_one_open, plain_text};
 use std::alloc::{AllocError, Global};
 use std::marker::Model;
+use std::rc::RcSlice;
 use thiserror::Error;
 
-/// A pattern of names. Contracts see it as its alternatives, each a list of items.
+/// A pattern of names. Contracts see it as its alternatives, each a list of items. Copies of a pattern share its text.
 #[derive(Debug, Drop)]
 pub struct Pattern {
-    text: Vec<u8>,
+    text: RcSlice<u8>,
 }
 
 impl Model for Pattern {
     ghost use Rattle.std.specs.Prelude.{List};
     ghost use Rattle.glob_select.specs.Items.{Item};
     ghost use Rattle.glob_select.specs.Reading.{alternatives_of};
+    ghost use Rattle.std.specs.Rc.{rc_slice_items};
 
     ghost Value = { List (List Item) };
 
-    ghost view = { λ pattern. alternatives_of pattern.text.items };
+    ghost view = { λ pattern. alternatives_of (rc_slice_items pattern.text) };
 }
 
 /// Why a text became no pattern.
@@ -64,7 +66,7 @@ impl Pattern {
             return Err(PatternFault::BadPattern { at });
         }
         Ok(Pattern {
-            text: Vec::from_slice(alloc, text)?,
+            text: RcSlice::from_slice(alloc, text)?,
         })
     }
 
@@ -82,12 +84,12 @@ impl Pattern {
         fits(after_spaces(rest), name)
     }
 
-    /// The same pattern once more.
-    pub fn copy(&self, alloc: Global) -> Result<Pattern, AllocError>
+    /// The same pattern once more, which takes no memory.
+    pub fn copy(&self) -> Result<Pattern, AllocError>
         ensures { IfOk result (λ pattern. pattern ≡ self.now) }
     {
         Ok(Pattern {
-            text: Vec::from_slice(alloc, self.text.as_slice())?,
+            text: self.text.clone()?,
         })
     }
 

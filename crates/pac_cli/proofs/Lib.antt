@@ -2,6 +2,7 @@ pub mod Stopping
 pub mod OneReading
 pub mod Slots
 pub mod Doing
+pub mod Sources
 pub mod Scripts
 pub mod Standing
 pub mod OneAnswer

@@ -15,18 +15,20 @@ use Rattle.frag_sem.specs.TextSurface.{text_surface}
 use Rattle.frag_tree.specs.declared.event.Event.{Event}
 use Rattle.frag_tree.specs.declared.script.Script.{Script}
 use Rattle.pac_bus.specs.Acts.{Act}
-use Rattle.pac_cli.specs.Answers.{Cause, Plan, Answer, refused, does, generated, listed, scripted, table_plan, text_plan, AnswersOnCrate, AnswersOnRows, AnswersScript, Decides, DecidesOn, DecidesRun, DecidesSource, DecidesText, AnswersAsked, AnswersCommand, AnswersWithout, IsAnswer}
+use Rattle.pac_cli.specs.Answers.{Cause, Plan, Answer, refused, does, generated, listed, scripted, table_plan, text_plan, AnswersOnCrate, AnswersOnRows, AnswersRun, AnswersScript, Decides, DecidesOn, DecidesRun, DecidesSource, DecidesText, AnswersAsked, AnswersCommand, AnswersWithout, IsAnswer}
 use Rattle.pac_cli.specs.Buses.{bus_of, kinds_of, missing_kind}
 use Rattle.pac_cli.specs.Scripts.{CrateReading, untyped, typed}
 use Rattle.pac_inputs.specs.Gathering.{FileMap, Gathering, inputs_are, is_too_long, Gathered, gathered_from}
 use Rattle.pac_inputs.specs.declared.gathering.Wanted.{Wanted}
 use Rattle.pac_cli.specs.Inputs.{files_of}
 use Rattle.pac_words.specs.declared.command.Source.{Source}
-use Rattle.pac_cli.specs.Resolving.{Resolution, stopped, resolved, by_reading, SourceBytes, bytes_of, WherePassed, IsJudged, ComeTo, resolution_of}
+use Rattle.pac_cli.specs.Resolving.{Resolution, stopped, resolved, then_by, by_reading, by_patching, patched_to, SourceBytes, bytes_of, WherePassed, IsPatch, IsJudged, ComeTo, resolution_of}
 use Rattle.pac_cli.proofs.Stopping.{Rows}
 use Rattle.derived_rows.proofs.OneFault.{no_fault, one_fault}
 use Rattle.derived_rows.specs.Faults.{Fault as DeriveFault}
 use Rattle.overlap_check.specs.declared.fault.Policy.{Policy}
+use Rattle.patch_model.proofs.OneReading.{one_read}
+use Rattle.patch_model.specs.Readings.{Reading as PatchReading}
 use Rattle.table_sem.specs.TableSurface.{table_surface}
 use Rattle.pac_cli.specs.Showing.{Shows}
 use Rattle.pac_cli.specs.Stages.{BrokeOn, MakesFirst}
@@ -38,12 +40,26 @@ use Rattle.pac_cli.proofs.OneReading.{one_crate_reading, one_script_reading}
 abbrev pub OneReading : Type 0
 OneReading = (bytes : List ℕ) (one other : Reading) → HasAnswer bytes one → HasAnswer bytes other → one ≡ other
 
--- deriving comes to one thing at most
+-- a patch comes to one thing at most
+one_patch : (bytes : Option (List ℕ)) (one other : Option PatchReading) → IsPatch bytes one → IsPatch bytes other → one ≡ other
+one_patch None None None a b = refl
+one_patch None None (Some other) a b = absurd b
+one_patch None (Some one) other a b = absurd a
+one_patch (Some bytes) None other a b = absurd a
+one_patch (Some bytes) (Some one) None a b = absurd b
+one_patch (Some bytes) (Some one) (Some other) a b = ap Some (one_read bytes one other a b)
+
+-- and deriving to one
 one_judged : (all : Rows) (one other : Option DeriveFault) → IsJudged one all → IsJudged other all → one ≡ other
 one_judged all None None a b = refl
 one_judged all None (Some other) a b = absurd (no_fault all other a b)
 one_judged all (Some one) None a b = absurd (no_fault all one b a)
 one_judged all (Some one) (Some other) a b = ap Some (one_fault all one other a b)
+
+same_patched : (source : SourceBytes) (reading : Reading) (come : Resolution) (one other : Option PatchReading) → by_reading reading ≡ come → WherePassed (λ all. IsPatch source.patch one) come → WherePassed (λ all. IsPatch source.patch other) come
+    → patched_to one reading ≡ patched_to other reading
+same_patched source reading (stopped why) one other is a b = ap (then_by (by_patching one)) is ∙ sym (ap (then_by (by_patching other)) is)
+same_patched source reading (resolved all) one other is a b = ap (λ (patch : Option PatchReading). patched_to patch reading) (one_patch source.patch one other a b)
 
 same_judged : (policy : Policy) (before : Resolution) (one other : Option DeriveFault) → WherePassed (IsJudged one) before → WherePassed (IsJudged other) before → resolution_of policy one before ≡ resolution_of policy other before
 unfolding resolution_of
@@ -52,16 +68,19 @@ same_judged policy (resolved all) one other a b = ap (λ (fault : Option DeriveF
 
 same_resolution : OneReading → (source : SourceBytes) (one other : Resolution) → ComeTo source one → ComeTo source other → one ≡ other
 same_resolution read source one other a b =
-    let same : a.reading ≡ b.reading = read source.svd a.reading b.reading a.read b.read in
-    let also : WherePassed (IsJudged a.fault) (by_reading b.reading) = subst (λ (reading : Reading). WherePassed (IsJudged a.fault) (by_reading reading)) same a.judged in
+    let same : b.reading ≡ a.reading = read source.svd b.reading a.reading b.read a.read in
+    let also : WherePassed (λ all. IsPatch source.patch b.patch) (by_reading a.reading) = subst (λ (reading : Reading). WherePassed (λ all. IsPatch source.patch b.patch) (by_reading reading)) same b.spelled in
+    let before : patched_to b.patch b.reading ≡ patched_to a.patch a.reading = ap (patched_to b.patch) same ∙ same_patched source a.reading (by_reading a.reading) b.patch a.patch refl also a.spelled in
     a.comes
-    ∙ (ap (λ (reading : Reading). resolution_of source.policy a.fault (by_reading reading)) same
-    ∙ (same_judged source.policy (by_reading b.reading) a.fault b.fault also b.judged ∙ sym b.comes))
+    ∙ same_judged source.policy (patched_to a.patch a.reading) a.fault b.fault a.judged (subst (WherePassed (IsJudged b.fault)) before b.judged)
+    ∙ ap (resolution_of source.policy b.fault) (sym before)
+    ∙ sym b.comes
 
 one_for_source : OneReading → (made : Resolution → Answer) (source : Source) (inputs : List (List ℕ)) (one other : Answer) → DecidesSource made source inputs one → DecidesSource made source inputs other → one ≡ other
 one_for_source read made source [] one other a b = absurd a
-one_for_source read made source (svd ∷ []) one other a b = a.answered ∙ ap made (same_resolution read (bytes_of source svd) a.resolution b.resolution a.comes b.comes) ∙ sym b.answered
-one_for_source read made source (svd ∷ next ∷ inputs) one other a b = absurd a
+one_for_source read made source (svd ∷ []) one other a b = a.answered ∙ ap made (same_resolution read (bytes_of source svd None) a.resolution b.resolution a.comes b.comes) ∙ sym b.answered
+one_for_source read made source (svd ∷ patch ∷ []) one other a b = a.answered ∙ ap made (same_resolution read (bytes_of source svd (Some patch)) a.resolution b.resolution a.comes b.comes) ∙ sym b.answered
+one_for_source read made source (svd ∷ patch ∷ next ∷ inputs) one other a b = absurd a
 
 one_for_script : (surface : Surface) (plan : Script → Plan) (bytes : List ℕ) (one other : Answer) → AnswersScript surface plan bytes one → AnswersScript surface plan bytes other → one ≡ other
 one_for_script surface plan bytes one other a b =
@@ -83,13 +102,17 @@ one_on_rows : (resolution : Resolution) (script : List ℕ) (one other : Answer)
 one_on_rows (stopped why) script one other a b = a ∙ sym b
 one_on_rows (resolved rows) script one other a b = one_for_script (table_surface rows) (table_plan rows) script one other a b
 
+one_run : OneReading → (source : SourceBytes) (script : List ℕ) (one other : Answer) → AnswersRun source script one → AnswersRun source script other → one ≡ other
+one_run read source script one other a b =
+    one_on_rows b.resolution script one other
+    (subst (λ (resolution : Resolution). AnswersOnRows resolution script one) (same_resolution read source a.resolution b.resolution a.comes b.comes) a.answered) b.answered
+
 one_for_run : OneReading → (source : Source) (inputs : List (List ℕ)) (one other : Answer) → DecidesRun source inputs one → DecidesRun source inputs other → one ≡ other
 one_for_run read source [] one other a b = absurd a
 one_for_run read source (svd ∷ []) one other a b = absurd a
-one_for_run read source (svd ∷ script ∷ []) one other a b =
-    one_on_rows b.resolution script one other
-    (subst (λ (resolution : Resolution). AnswersOnRows resolution script one) (same_resolution read (bytes_of source svd) a.resolution b.resolution a.comes b.comes) a.answered) b.answered
-one_for_run read source (svd ∷ script ∷ next ∷ inputs) one other a b = absurd a
+one_for_run read source (svd ∷ script ∷ []) one other a b = one_run read (bytes_of source svd None) script one other a b
+one_for_run read source (svd ∷ patch ∷ script ∷ []) one other a b = one_run read (bytes_of source svd (Some patch)) script one other a b
+one_for_run read source (svd ∷ patch ∷ script ∷ next ∷ inputs) one other a b = absurd a
 
 -- a command and its inputs decide one answer at most
 pub one_decision_lem : OneReading → (command : Command) (inputs : List (List ℕ)) (one other : Answer) → Decides command inputs one → Decides command inputs other → one ≡ other

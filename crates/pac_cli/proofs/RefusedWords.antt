@@ -29,7 +29,8 @@ not_generated (resolved rows) e = cc e
 not_from : (made : Resolution → Answer) → ((resolution : Resolution) → refused no_command ≡ made resolution → ⊥) → (source : Source) (inputs : List (List ℕ)) → DecidesSource made source inputs (refused no_command) → ⊥
 not_from made never source [] h = h
 not_from made never source (svd ∷ []) h = never h.resolution h.answered
-not_from made never source (svd ∷ next ∷ inputs) h = h
+not_from made never source (svd ∷ patch ∷ []) h = never h.resolution h.answered
+not_from made never source (svd ∷ patch ∷ next ∷ inputs) h = h
 
 not_typed : (fault : Option LineFault) (plan : Plan) → refused no_command ≡ unless_mistyped fault plan → ⊥
 not_typed None plan e = cc e
@@ -58,7 +59,8 @@ not_for_run : (source : Source) (inputs : List (List ℕ)) → DecidesRun source
 not_for_run source [] h = h
 not_for_run source (svd ∷ []) h = h
 not_for_run source (svd ∷ script ∷ []) h = not_on_rows h.resolution script h.answered
-not_for_run source (svd ∷ script ∷ next ∷ inputs) h = h
+not_for_run source (svd ∷ patch ∷ script ∷ []) h = not_on_rows h.resolution script h.answered
+not_for_run source (svd ∷ patch ∷ script ∷ next ∷ inputs) h = h
 
 not_decided : (command : Command) (inputs : List (List ℕ)) → Decides command inputs (refused no_command) → ⊥
 not_decided (Listing source) inputs h = not_from listed not_listed source inputs h

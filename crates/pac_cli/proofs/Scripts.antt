@@ -34,7 +34,7 @@ use Rattle.pac_fault.specs.Classes.{Class, no_memory, bad_words, bad_read, bad_w
 use Rattle.pac_fault.specs.Layers.{of_parsing, of_script, of_typing}
 use Rattle.pac_fault.specs.declared.fault.PacFault.{PacFault}
 use Rattle.pac_fault.specs.declared.fault.PacFault.TheVariants.{Memory}
-use Rattle.pac_cli.specs.Answers.{Answer, AnswersRun, AnswersScript, AnswersText, Decides, Plan, does, no_crate_text, no_script, refused, scripted, table_plan, text_plan, unless_mistyped, unresolved}
+use Rattle.pac_cli.specs.Answers.{Answer, AnswersRun, AnswersScript, AnswersText, Decides, DecidesRun, Plan, does, no_crate_text, no_script, refused, scripted, table_plan, text_plan, unless_mistyped, unresolved}
 use Rattle.pac_cli.specs.Buses.{OthersStay, Slot, bus_of, lent_for}
 use Rattle.pac_words.specs.declared.command.Command.{Command}
 use Rattle.pac_words.specs.declared.command.Command.TheVariants.{Executing, Running}
@@ -44,13 +44,13 @@ use Rattle.frag_emit.specs.Standing.{StandsFor}
 use Rattle.svd_model.specs.Keys.{Key}
 use Rattle.svd_model.specs.Steps.{Step}
 use Rattle.svd_rows.specs.Rows.{Row}
-use Rattle.overlap_check.specs.declared.fault.Policy.{Policy}
-use Rattle.pac_cli.specs.Resolving.{ComeTo, SourceBytes, bytes_of, policy_of, Unresolved, stopped, resolved}
+use Rattle.pac_cli.specs.Resolving.{ComeTo, SourceBytes, bytes_from, Unresolved, stopped, resolved}
 use Rattle.pac_cli.proofs.OneReading.{no_fault}
 use Rattle.pac_cli.specs.Scripts.{no_crate, modules_too_deep, misfits, untyped, typed, CrateReadAs, IsTreeOf, no_statement, too_many_statements, mistyped, Unscripted, unread, spelled, ScriptReadAs}
 use Rattle.pac_cli.specs.Stages.{Does, DoesNot, IsScriptFor, IsUnfit, MakesAll, MakesFirst, ScriptsNot, TypesNot}
 use Rattle.pac_cli.specs.Worlds.{Desk, Paper, desk}
-use Rattle.pac_cli.proofs.Doing.{nothing_done}
+use Rattle.pac_cli.proofs.Doing.{does_otherwise, nothing_done}
+use Rattle.pac_cli.proofs.Sources.{decides_run}
 
 -- ---- crate texts
 
@@ -265,16 +265,15 @@ answers_run source rows made bytes answer comes stands h = record {
 }
 
 -- running a script against the crate of a description is what the command decides
-pub has_run : {T : Type 0} (command : Command) (source : Source) (run : Run) (inputs : List (List ℕ)) (svd bytes : List ℕ) (before after : Paper) (old new : List Slot) (was now : BusTold)
-    (policy : Policy) (result : Result T PacFault) → command ≡ Running source run → policy ≡ policy_of source → inputs ≡ svd ∷ bytes ∷ [] → lent_for (Some run.bus) old ≡ Some was → lent_for (Some run.bus) new ≡ Some now
-    → Does (AnswersRun (record { svd = svd; policy = policy }) bytes) (desk before (Some was)) (desk after (Some now)) result
+pub has_run : {T : Type 0} (command : Command) (source : Source) (run : Run) (inputs files : List (List ℕ)) (given : SourceBytes) (bytes : List ℕ) (before after : Paper) (old new : List Slot) (was now : BusTold)
+    (result : Result T PacFault) → command ≡ Running source run → inputs ≡ files ++ bytes ∷ [] → bytes_from source files ≡ Some given → lent_for (Some run.bus) old ≡ Some was → lent_for (Some run.bus) new ≡ Some now
+    → Does (AnswersRun given bytes) (desk before (Some was)) (desk after (Some now)) result
     → Does (Decides command inputs) (desk before (lent_for (bus_of command) old)) (desk after (lent_for (bus_of command) new)) result
-has_run command source run inputs svd bytes before after old new was now policy result is same given first last h =
+has_run command source run inputs files given bytes before after old new was now result is are from first last h =
     subst (λ (c : Command). Does (Decides c inputs) (desk before (lent_for (bus_of c) old)) (desk after (lent_for (bus_of c) new)) result) (sym is)
-    (subst (λ (all : List (List ℕ)). Does (Decides (Running source run) all) (desk before (lent_for (Some run.bus) old)) (desk after (lent_for (Some run.bus) new)) result) (sym given)
-    (subst (λ (bus : Option BusTold). Does (AnswersRun (bytes_of source svd) bytes) (desk before bus) (desk after (lent_for (Some run.bus) new)) result) (sym first)
-    (subst (λ (bus : Option BusTold). Does (AnswersRun (bytes_of source svd) bytes) (desk before (Some was)) (desk after bus) result) (sym last)
-    (subst (λ (p : Policy). Does (AnswersRun (record { svd = svd; policy = p }) bytes) (desk before (Some was)) (desk after (Some now)) result) same h))))
+    (subst (λ (bus : Option BusTold). Does (DecidesRun source inputs) (desk before bus) (desk after (lent_for (Some run.bus) new)) result) (sym first)
+    (subst (λ (bus : Option BusTold). Does (DecidesRun source inputs) (desk before (Some was)) (desk after bus) result) (sym last)
+    (does_otherwise (AnswersRun given bytes) (DecidesRun source inputs) (decides_run source inputs files bytes given are from) (desk before (Some was)) (desk after (Some now)) result h)))
 
 -- and the other lent buses are those of the command
 pub others_run : (command : Command) (source : Source) (run : Run) (old new : List Slot) → command ≡ Running source run → OthersStay (Some run.bus) old new → OthersStay (bus_of command) old new

@@ -126,9 +126,10 @@ pub record AnswersRun (source : SourceBytes) (script : List ℕ) (answer : Answe
 
 -- ---- all commands
 
--- the same of the inputs of a command whose files are those of a description
+-- the same of the inputs of a command whose files are those of a description: a second one is its patch
 abbrev pub DecidesSource : (Resolution → Answer) → Source → List (List ℕ) → Answer → Type 0
-DecidesSource made source (svd ∷ []) answer = AnswersSource made (bytes_of source svd) answer
+DecidesSource made source (svd ∷ []) answer = AnswersSource made (bytes_of source svd None) answer
+DecidesSource made source (svd ∷ patch ∷ []) answer = AnswersSource made (bytes_of source svd (Some patch)) answer
 DecidesSource made source _ answer = ⊥
 
 -- the same of the inputs of a command whose files are a crate text and a script
@@ -136,9 +137,10 @@ abbrev pub DecidesText : List (List ℕ) → Answer → Type 0
 DecidesText (krate ∷ script ∷ []) answer = AnswersText krate script answer
 DecidesText _ answer = ⊥
 
--- the same of a description and a script
+-- the same of a description, its patch, and a script
 abbrev pub DecidesRun : Source → List (List ℕ) → Answer → Type 0
-DecidesRun source (svd ∷ script ∷ []) answer = AnswersRun (bytes_of source svd) script answer
+DecidesRun source (svd ∷ script ∷ []) answer = AnswersRun (bytes_of source svd None) script answer
+DecidesRun source (svd ∷ patch ∷ script ∷ []) answer = AnswersRun (bytes_of source svd (Some patch)) script answer
 DecidesRun source _ answer = ⊥
 
 -- the answer to a command with these inputs

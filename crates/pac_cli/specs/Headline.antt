@@ -38,8 +38,9 @@ abbrev pub WritesText : Command → List (List ℕ) → Option (List ℕ) → Op
 WritesText (Listing source) inputs old new = ⊤
 WritesText (Executing krate run) inputs old new = ⊤
 WritesText (Running source run) inputs old new = ⊤
-WritesText (Generating source) [] old new = ⊤
-WritesText (Generating source) (svd ∷ inputs) old new = WritesTextFor (bytes_of source svd) old new
+WritesText (Generating source) (svd ∷ []) old new = WritesTextFor (bytes_of source svd None) old new
+WritesText (Generating source) (svd ∷ patch ∷ []) old new = WritesTextFor (bytes_of source svd (Some patch)) old new
+WritesText (Generating source) _ old new = ⊥
 
 -- the inputs of a command, which told files have, and the text that it writes
 pub record HasText (command : Command) (told : Option FileMap) (old new : Option (List ℕ)) : Type 0 where

@@ -1,22 +1,24 @@
 -- The files that a command reads, in order, and how long each may be. This project's own rule.
 use Rattle.std.specs.Prelude.{ℕ, List, [], ◌∷◌, ◌++◌, Option, Some, None}
+use Rattle.pac_cli.specs.Resolving.{longest}
 use Rattle.pac_words.specs.declared.command.Command.{Command}
 use Rattle.pac_words.specs.declared.command.Command.TheVariants.{Executing, Generating, Listing, Running}
 use Rattle.pac_words.specs.declared.command.Run.{Run}
 use Rattle.pac_words.specs.declared.command.Source.{Source}
 use Rattle.pac_inputs.specs.declared.gathering.Wanted.{Wanted}
 
--- how many bytes a description or a script may have: 64 MiB
-abbrev pub longest : ℕ
-longest = 67108864
-
 -- how many bytes a crate text may have: 256 MiB
 abbrev pub longest_crate : ℕ
 longest_crate = 268435456
 
+-- the patch, where there is one
+abbrev pub patch_files : Option (List ℕ) → List Wanted
+patch_files None = []
+patch_files (Some name) = record { name = name; limit = longest } ∷ []
+
 -- the files that a description comes from
 abbrev pub source_files : Source → List Wanted
-source_files source = record { name = source.svd; limit = longest } ∷ []
+source_files source = record { name = source.svd; limit = longest } ∷ patch_files source.patch
 
 -- the script of a run
 abbrev pub script_file : Run → Wanted

@@ -13,11 +13,11 @@ use Rattle.svd_reader.specs.Refusals.{Tells}
 use Rattle.svd_reader.specs.declared.fault.SvdFault.{SvdFault}
 use Rattle.svd_reader.specs.declared.fault.SvdFault.TheVariants as svd
 use Rattle.pac_fault.specs.declared.fault.PacFault.{PacFault}
-use Rattle.pac_fault.specs.declared.fault.PacFault.TheVariants.{Words, Svd, Derive, Dim, Check, CrateText, Script, Limit}
+use Rattle.pac_fault.specs.declared.fault.PacFault.TheVariants.{Words, Svd, Block, Command, Patch, Derive, Dim, Check, CrateText, Script, Limit}
 use Rattle.pac_fault.specs.declared.fault.WordsFault.TheVariants.{Clap, NoBus}
 use Rattle.pac_fault.specs.declared.fault.LimitFault.TheVariants.{FileTooLong, ScriptTooLong, TooMany}
 use Rattle.pac_cli.specs.Answers.{Cause, no_command, no_bus, file_too_long, unresolved, no_crate_text, no_script}
-use Rattle.pac_cli.specs.Resolving.{Unresolved, no_description, nests_too_deep, misdescribed, too_many, underived, misdimensioned, fails_check}
+use Rattle.pac_cli.specs.Resolving.{Unresolved, no_description, nests_too_deep, misdescribed, misspelled_patch, misformed_patch, unpatched, too_many, underived, misdimensioned, fails_check}
 use Rattle.pac_cli.specs.Scripts.{Untyped, no_crate, modules_too_deep, misfits, Unscripted, no_statement, too_many_statements, mistyped}
 
 -- why a description comes to no rows, as a fault
@@ -25,6 +25,9 @@ abbrev pub ShowsUnresolved : Unresolved → PacFault → Type 0
 ShowsUnresolved no_description fault = (at : ℕ) × (fault ≡ Svd (svd.Syntax at))
 ShowsUnresolved (nests_too_deep name) fault = (span : Span) × (name ≡ (span.start, span.end)) × (fault ≡ Svd (svd.TooDeep span))
 ShowsUnresolved (misdescribed found) fault = (told : SvdFault) × Tells told (at_fault found) × (fault ≡ Svd told)
+ShowsUnresolved (misspelled_patch found) fault = fault ≡ Block found
+ShowsUnresolved (misformed_patch found) fault = fault ≡ Command found
+ShowsUnresolved (unpatched found) fault = fault ≡ Patch found
 ShowsUnresolved (too_many kind count) fault = fault ≡ Limit (TooMany kind count)
 ShowsUnresolved (underived found) fault = fault ≡ Derive (told_fault found)
 ShowsUnresolved (misdimensioned path cause) fault = fault ≡ Dim (fault_of path cause)

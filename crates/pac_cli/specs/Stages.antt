@@ -1,5 +1,5 @@
 -- What each stage of a command answers: its value, or a fault by its class. No stage speaks of one command alone.
-use Rattle.std.specs.Prelude.{ℕ, ◌≡◌, ◌⊎◌, List, [], ◌∷◌, ◌++◌, length, Option, Some, None, Result, Ok, Err}
+use Rattle.std.specs.Prelude.{ℕ, ◌≡◌, ◌⊎◌, List, [], ◌∷◌, ◌++◌, length, map, Option, Some, None, Result, Ok, Err}
 use Rattle.std.specs.Io.KnownBytes.{Appends}
 use Rattle.frag_eval.specs.Prefixes.{IsAccess, acts_of, reads_in}
 use Rattle.frag_eval.specs.Preparing.{set_by_all}
@@ -23,10 +23,13 @@ use Rattle.pac_words.specs.declared.command.BusKind.{BusKind}
 use Rattle.pac_words.specs.declared.command.Command.{Command}
 use Rattle.pac_fault.specs.Classes.{Class, no_memory, bad_words, bad_write, bad_bus, bad_input, class_of}
 use Rattle.pac_fault.specs.declared.fault.PacFault.{PacFault}
-use Rattle.pac_fault.specs.declared.fault.PacFault.TheVariants.{Memory, Words}
+use Rattle.pac_fault.specs.declared.fault.PacFault.TheVariants.{Memory, Words, Block, Command as BadCommand}
 use Rattle.pac_fault.specs.declared.fault.WordsFault.TheVariants.{Clap, NoBus}
 use Rattle.pac_cli.specs.Answers.{Cause, Plan, Answer, refused, does}
-use Rattle.pac_cli.specs.Resolving.{Unresolved, stopped, resolved, SourceBytes, ComeTo}
+use Rattle.pac_cli.specs.Resolving.{Unresolved, Resolution, stopped, resolved, SourceBytes, ComeTo, IsPatch, by_patching}
+use Rattle.patch_model.specs.Acts.{order_of}
+use Rattle.patch_model.specs.Readings.{Reading as PatchReading, no_block, no_commands, commanded, IsReadAs}
+use Rattle.patch_model.specs.declared.act.Command.{Command as PatchCommand}
 use Rattle.pac_cli.specs.Scripts.{Untyped, untyped, typed, CrateReadAs, Unscripted, unread, mistyped, spelled, ScriptReadAs}
 use Rattle.pac_cli.specs.Showing.{Shows, ShowsUnresolved, ShowsUnscripted, ShowsUntyped}
 use Rattle.pac_cli.specs.Worlds.{Desk, DoesNothing}
@@ -54,6 +57,40 @@ ResolvesNot _ source fault = ⊥
 abbrev pub Resolves : SourceBytes → Result (List (Row Step Key)) PacFault → Type 0
 Resolves source (Ok rows) = ComeTo source (resolved rows)
 Resolves source (Err fault) = ResolvesNot (class_of fault) source fault
+
+-- ---- a patch
+
+-- the fault tells why the bytes of a patch come to no commands
+abbrev pub TellsUncommanded : PatchReading → PacFault → Type 0
+TellsUncommanded (no_block found) fault = fault ≡ Block found
+TellsUncommanded (no_commands found) fault = fault ≡ BadCommand found
+TellsUncommanded (commanded orders) fault = ⊥
+
+abbrev pub ReadsNot : Class → List ℕ → PacFault → Type 0
+ReadsNot no_memory bytes fault = fault ≡ Memory
+ReadsNot bad_input bytes fault = (reading : PatchReading) × IsReadAs bytes reading × TellsUncommanded reading fault
+ReadsNot _ bytes fault = ⊥
+
+-- the commands to which the bytes of a patch come, or why they come to none
+abbrev pub ReadsPatch : List ℕ → Result (List PatchCommand) PacFault → Type 0
+ReadsPatch bytes (Ok commands) = IsReadAs bytes (commanded (map order_of commands))
+ReadsPatch bytes (Err fault) = ReadsNot (class_of fault) bytes fault
+
+-- a patch, where there is one, makes of these rows what it comes to
+pub record PatchComesTo (all : List (Row Step Key)) (bytes : Option (List ℕ)) (resolution : Resolution) : Type 0 where
+  pub reading : Option PatchReading
+  pub spelled : IsPatch bytes reading
+  pub comes : by_patching reading all ≡ resolution
+
+abbrev pub PatchesNot : Class → List (Row Step Key) → Option (List ℕ) → PacFault → Type 0
+PatchesNot no_memory all bytes fault = fault ≡ Memory
+PatchesNot bad_input all bytes fault = (why : Unresolved) × PatchComesTo all bytes (stopped why) × ShowsUnresolved why fault
+PatchesNot _ all bytes fault = ⊥
+
+-- the rows that a patch leaves of these, or why it leaves none
+abbrev pub Patches : List (Row Step Key) → Option (List ℕ) → Result (List (Row Step Key)) PacFault → Type 0
+Patches all bytes (Ok rows) = PatchComesTo all bytes (resolved rows)
+Patches all bytes (Err fault) = PatchesNot (class_of fault) all bytes fault
 
 -- ---- the bus
 

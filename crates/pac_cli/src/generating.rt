@@ -1,12 +1,13 @@
-ghost use Rattle.std.specs.Prelude.{◌≤◌, length, IfOk};
+ghost use Rattle.std.specs.Prelude.{IfOk};
 ghost use Rattle.pac_cli.specs.Answers.{AnswersSource, generated};
 ghost use Rattle.pac_cli.specs.Headline.{WritesTextFor};
+ghost use Rattle.pac_cli.specs.Resolving.{FitsLimits, bytes_in};
 ghost use Rattle.pac_cli.specs.Stages.{Does};
 ghost use Rattle.pac_cli.specs.Worlds.{alone, paper};
 
 use crate::resolving::resolve;
+use crate::source::Description;
 use frag_emit::print_text;
-use overlap_check::Policy;
 use pac_fault::PacFault;
 use pac_io::Sink;
 use std::alloc::Global;
@@ -14,18 +15,18 @@ use std::alloc::Global;
 /// Writes the text of the peripheral access crate of a description, one module after the other.
 pub(crate) fn generate<S: Sink>(
     alloc: Global,
-    svd: &[u8],
-    policy: Policy,
+    source: Description<'_>,
     out: &mut S,
 ) -> Result<(), PacFault>
-    requires { length svd.now ≤ 67_108_864 }
-    ensures does { Does (AnswersSource generated (record { svd = svd.now; policy = policy }))
+    requires { FitsLimits (bytes_in source) }
+    ensures does { Does (AnswersSource generated (bytes_in source.entry))
         (alone (paper (S.written out.old) (S.faults out.old)))
         (alone (paper (S.written out.new) (S.faults out.new)))
         result }
-    ensures headline { IfOk result (λ _. WritesTextFor (record { svd = svd.now; policy = policy }) (S.written out.old) (S.written out.new)) }
+    ensures headline { IfOk result (λ _.
+        WritesTextFor (bytes_in source.entry) (S.written out.old) (S.written out.new)) }
 {
-    let state = resolve(alloc, svd, policy)?;
+    let state = resolve(alloc, source)?;
     print_text(alloc, &state, out)?;
     Ok(())
 }

@@ -6,7 +6,7 @@ use pac_inputs::Wanted;
 use pac_words::{Command, Run, Source};
 use std::alloc::Global;
 
-/// How many bytes a description or a script may have: 64 MiB.
+/// How many bytes a description, a patch or a script may have: 64 MiB.
 const LONGEST: u64 = 67_108_864;
 
 /// How many bytes a crate text may have: 256 MiB.
@@ -33,6 +33,13 @@ fn source_files(alloc: Global, source: &Source) -> Result<Vec<Wanted>, NoMemory>
         name,
         limit: LONGEST,
     })?;
+    if let Some(patch) = &source.patch {
+        let name = patch.copy(alloc)?;
+        files.push(Wanted {
+            name,
+            limit: LONGEST,
+        })?;
+    }
     Ok(files)
 }
 

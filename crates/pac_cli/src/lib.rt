@@ -14,6 +14,7 @@ mod run;
 mod running;
 mod script;
 mod slot;
+mod source;
 mod telling;
 
 pub use laws::{one_answer, one_decision, refused_words};

@@ -10,9 +10,9 @@ ghost use Rattle.pac_cli.specs.Worlds.{desk, paper};
 use crate::executing::execute;
 use crate::generating::generate;
 use crate::listing::list;
-use crate::resolving::policy_of;
 use crate::running::run_against;
 use crate::slot::{BusSlot, place_of};
+use crate::source::described;
 use pac_bus::Bus;
 use pac_fault::PacFault;
 use pac_io::{Bytes, Sink};
@@ -38,25 +38,19 @@ pub(crate) fn perform<S: Sink, B: Bus>(
     ensures headline { IfOk result (λ _. WritesText command.now inputs.now (S.written out.old) (S.written out.new)) }
 {
     match (command, inputs) {
-        (Command::Listing { source }, [svd]) => {
-            list(alloc, svd.as_slice(), policy_of(source), out)
-        }
-        (Command::Generating { source }, [svd]) => {
-            generate(alloc, svd.as_slice(), policy_of(source), out)
-        }
+        (Command::Listing { source }, files) => list(alloc, described(source, files), out),
+        (Command::Generating { source }, files) => generate(alloc, described(source, files), out),
         (Command::Executing { run, .. }, [krate, script]) => {
             let place = place_of(buses.as_slice(), run.bus);
             let bus = &mut buses[place].bus;
             execute(alloc, krate.as_slice(), script.as_slice(), bus, out)
         }
-        (Command::Running { source, run }, [svd, script]) => {
-            let policy = policy_of(source);
+        (Command::Running { source, run }, [files @ .., script]) => {
+            let source = described(source, files);
             let place = place_of(buses.as_slice(), run.bus);
             let bus = &mut buses[place].bus;
-            run_against(alloc, svd.as_slice(), policy, script.as_slice(), bus, out)
+            run_against(alloc, source, script.as_slice(), bus, out)
         }
-        (Command::Listing { .. }, _) => unreachable!(),
-        (Command::Generating { .. }, _) => unreachable!(),
         (Command::Executing { .. }, _) => unreachable!(),
         (Command::Running { .. }, _) => unreachable!(),
     }

@@ -15,14 +15,14 @@ use Rattle.pac_words.specs.declared.command.BusKind.{BusKind}
 use Rattle.pac_words.specs.declared.command.BusKind.TheVariants as bus
 use Rattle.svd_keys.specs.declared.fault.BadKind.{BadKind}
 use Rattle.svd_keys.specs.declared.fault.BadKind.TheVariants as bad
-use Rattle.svd_model.specs.declared.counted.Counted.{Counted}
-use Rattle.svd_model.specs.declared.counted.Counted.TheVariants as counted
 use Rattle.svd_reader.specs.declared.fault.SvdFault.{SvdFault}
 use Rattle.svd_reader.specs.declared.fault.SvdFault.TheVariants as svd
 use Rattle.svd_values.specs.AccessorNames.{without_array_mark}
+use Rattle.pac_fault.specs.Counts.{many_text}
+use Rattle.pac_fault.specs.PatchTexts.{block_text, command_text, patch_text}
 use Rattle.pac_fault.specs.FragmentTexts.{crate_text, script_text, statements_text}
 use Rattle.pac_fault.specs.declared.fault.PacFault.{PacFault}
-use Rattle.pac_fault.specs.declared.fault.PacFault.TheVariants.{Memory, Words, Read, Write, Bus, Svd, Derive, Dim, Check, CrateText, Script, Limit}
+use Rattle.pac_fault.specs.declared.fault.PacFault.TheVariants.{Memory, Words, Read, Write, Bus, Svd, Block, Command, Patch, Derive, Dim, Check, CrateText, Script, Limit}
 use Rattle.pac_fault.specs.declared.fault.WordsFault.{WordsFault}
 use Rattle.pac_fault.specs.declared.fault.WordsFault.TheVariants.{Clap, NoBus}
 use Rattle.pac_fault.specs.declared.fault.LimitFault.{LimitFault}
@@ -74,16 +74,6 @@ bad_text bad.Word = codes "description: bad word"
 bad_text bad.Name = codes "description: bad name"
 bad_text bad.Place = codes "description: bad place"
 bad_text bad.Index = codes "description: bad index"
-
-unfoldable pub counted_text : Counted → List ℕ
-counted_text counted.Elements = codes "elements"
-counted_text counted.Registers = codes "registers"
-counted_text counted.Fields = codes "fields"
-counted_text counted.Values = codes "values"
-
--- more parts than the limit allows
-unfoldable pub many_text : Counted → ℕ → List ℕ
-many_text kind count = codes "too many " ++ (counted_text kind ++ (codes ": " ++ decimal count))
 
 unfoldable pub svd_text : SvdFault → List ℕ
 svd_text (svd.Syntax at) = codes "description: syntax at byte " ++ decimal at
@@ -143,6 +133,9 @@ text_of (Read name) = codes "cannot read " ++ name
 text_of Write = codes "cannot write"
 text_of (Bus done) = codes "the bus failed after " ++ (decimal done ++ codes " events")
 text_of (Svd fault) = svd_text fault
+text_of (Block fault) = block_text fault
+text_of (Command fault) = command_text fault
+text_of (Patch fault) = patch_text fault
 text_of (Derive fault) = derive_text fault
 text_of (Dim fault) = dim_text fault
 text_of (Check fault) = check_text fault

@@ -14,16 +14,35 @@ use Rattle.overlap_check.specs.declared.fault.CheckFault.{CheckFault}
 use Rattle.overlap_check.specs.declared.fault.CheckFault.TheVariants as check
 use Rattle.pac_io.specs.declared.fault.SinkFault.{SinkFault}
 use Rattle.pac_io.specs.declared.fault.SinkFault.TheVariants as sink
+use Rattle.patch_model.specs.declared.fault.CommandFault.{CommandFault}
+use Rattle.patch_model.specs.declared.fault.CommandFault.TheVariants as command
+use Rattle.patch_sem.specs.declared.fault.PatchFault.{PatchFault}
+use Rattle.patch_sem.specs.declared.fault.PatchFault.TheVariants as patch
 use Rattle.svd_reader.specs.declared.fault.SvdFault.{SvdFault}
 use Rattle.svd_reader.specs.declared.fault.SvdFault.TheVariants as svd
+use Rattle.yaml_block.specs.declared.fault.BlockFault.{BlockFault}
+use Rattle.yaml_block.specs.declared.fault.BlockFault.TheVariants as block
 use Rattle.pac_fault.specs.declared.fault.PacFault.{PacFault}
-use Rattle.pac_fault.specs.declared.fault.PacFault.TheVariants.{Memory, Write, Svd, Derive, Dim, Check, CrateText, Script, Limit}
+use Rattle.pac_fault.specs.declared.fault.PacFault.TheVariants.{Memory, Write, Svd, Block, Command, Patch, Derive, Dim, Check, CrateText, Script, Limit}
 use Rattle.pac_fault.specs.declared.fault.LimitFault.TheVariants.{ScriptTooLong, TooMany}
 
 abbrev pub of_reading : SvdFault → PacFault
 of_reading svd.Memory = Memory
 of_reading (svd.TooMany kind count) = Limit (TooMany kind count)
 of_reading fault = Svd fault
+
+abbrev pub of_block : BlockFault → PacFault
+of_block block.Memory = Memory
+of_block fault = Block fault
+
+abbrev pub of_commands : CommandFault → PacFault
+of_commands command.Memory = Memory
+of_commands fault = Command fault
+
+abbrev pub of_patching : PatchFault → PacFault
+of_patching patch.Memory = Memory
+of_patching (patch.TooMany kind count) = Limit (TooMany kind count)
+of_patching fault = Patch fault
 
 abbrev pub of_deriving : DeriveFault → PacFault
 of_deriving derive.Memory = Memory

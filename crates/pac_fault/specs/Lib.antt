@@ -1,4 +1,6 @@
+pub mod Counts
 pub mod FragmentTexts
+pub mod PatchTexts
 pub mod FaultTexts
 pub mod Layers
 pub mod Statuses

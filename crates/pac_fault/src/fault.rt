@@ -4,9 +4,12 @@ use frag_types::{CrateFault, ScriptFault};
 use overlap_check::CheckFault;
 use pac_base::Text;
 use pac_words::BusKind;
+use patch_model::CommandFault;
+use patch_sem::PatchFault;
 use svd_model::Counted;
 use svd_reader::SvdFault;
 use thiserror::Error;
+use yaml_block::BlockFault;
 
 /// Why a call of `pac` didn't do what its words asked for.
 #[derive(Debug, Drop, Error)]
@@ -35,6 +38,15 @@ pub enum PacFault {
     /// The description is refused. Status 6.
     #[error("{0}")]
     Svd(SvdFault),
+    /// The patch is no block text. Status 7.
+    #[error("{0}")]
+    Block(BlockFault),
+    /// The patch has no commands. Status 7.
+    #[error("{0}")]
+    Command(CommandFault),
+    /// A command of the patch can't be carried out. Status 7.
+    #[error("{0}")]
+    Patch(PatchFault),
     /// What elements are derived from is refused. Status 8.
     #[error("{0}")]
     Derive(DeriveFault),

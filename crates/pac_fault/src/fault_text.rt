@@ -1,10 +1,13 @@
 ghost use Rattle.std.specs.Prelude.{◌≡◌, ◌++◌, IfOk, OnOk, codes, decimal};
 ghost use Rattle.std.specs.List.{flat_map};
 ghost use Rattle.svd_values.specs.AccessorNames.{without_array_mark};
-ghost use Rattle.pac_fault.specs.FaultTexts.{at_path, bad_text, both_paths, check_text, counted_text, derive_text, dim_text, fault_line, index_text, kind_text, limit_text, many_text, path_text, shown_name, span_text, step_behind, step_text, svd_text, text_of, words_text};
+ghost use Rattle.pac_fault.specs.Counts.{many_text};
+ghost use Rattle.pac_fault.specs.FaultTexts.{at_path, bad_text, both_paths, check_text, derive_text, dim_text, fault_line, index_text, kind_text, limit_text, path_text, shown_name, span_text, step_behind, step_text, svd_text, text_of, words_text};
 
+use crate::count_text::push_many;
 use crate::fault::{LimitFault, PacFault, WordsFault};
 use crate::fragment_text::{push_crate, push_script, push_statements};
+use crate::patch_text::{push_block, push_command, push_patch};
 use derive_from::DeriveFault;
 use dim_expand::DimFault;
 use overlap_check::CheckFault;
@@ -13,7 +16,6 @@ use pac_io::Page;
 use pac_words::BusKind;
 use std::alloc::Global;
 use svd_keys::BadKind;
-use svd_model::Counted;
 use svd_reader::SvdFault;
 
 /// The line that tells of the fault: `pac: `, its text, and a line feed.
@@ -39,6 +41,9 @@ fn push_text(page: &mut Page, fault: &PacFault) -> Result<(), NoMemory>
         PacFault::Write => page.push(b"cannot write"),
         PacFault::Bus { done } => push_between(page, b"the bus failed after ", *done, b" events"),
         PacFault::Svd(fault) => push_svd(page, fault),
+        PacFault::Block(fault) => push_block(page, fault),
+        PacFault::Command(fault) => push_command(page, fault),
+        PacFault::Patch(fault) => push_patch(page, fault),
         PacFault::Derive(fault) => push_derive(page, fault),
         PacFault::Dim(fault) => push_dim(page, fault),
         PacFault::Check(fault) => push_check(page, fault),
@@ -222,28 +227,6 @@ fn push_number(page: &mut Page, said: &[u8], number: u32) -> Result<(), NoMemory
 {
     page.push(said)?;
     page.decimal(u64::from(number))
-}
-
-#[tactic(auto, unfolding(crate::specs::FaultTexts::counted_text))]
-fn push_counted(page: &mut Page, kind: Counted) -> Result<(), NoMemory>
-    ensures { OnOk result (page.new ≡ page.old ++ counted_text kind) }
-{
-    match kind {
-        Counted::Elements => page.push(b"elements"),
-        Counted::Registers => page.push(b"registers"),
-        Counted::Fields => page.push(b"fields"),
-        Counted::Values => page.push(b"values"),
-    }
-}
-
-#[tactic(auto, unfolding(crate::specs::FaultTexts::many_text))]
-fn push_many(page: &mut Page, kind: Counted, count: u64) -> Result<(), NoMemory>
-    ensures { OnOk result (page.new ≡ page.old ++ many_text kind count) }
-{
-    page.push(b"too many ")?;
-    push_counted(page, kind)?;
-    page.push(b": ")?;
-    page.decimal(count)
 }
 
 #[tactic(auto, unfolding(crate::specs::FaultTexts::svd_text))]

@@ -1,5 +1,5 @@
 ghost use Rattle.std.specs.Prelude.{◌≡◌};
-ghost use Rattle.pac_fault.specs.Layers.{of_checking, of_deriving, of_parsing, of_reading, of_script, of_typing, of_unfolding, of_writing};
+ghost use Rattle.pac_fault.specs.Layers.{of_block, of_checking, of_commands, of_deriving, of_parsing, of_patching, of_reading, of_script, of_typing, of_unfolding, of_writing};
 ghost use Rattle.pac_fault.specs.declared.fault.PacFault.TheVariants.{Memory};
 
 use crate::fault::{LimitFault, PacFault};
@@ -10,8 +10,11 @@ use frag_types::{CrateFault, ScriptFault};
 use overlap_check::CheckFault;
 use pac_base::{Back, NoMemory};
 use pac_io::SinkFault;
+use patch_model::CommandFault;
+use patch_sem::PatchFault;
 use std::alloc::{AllocError, AllocFailed};
 use svd_reader::SvdFault;
+use yaml_block::BlockFault;
 
 impl From<AllocError> for PacFault {
     ghost from_gives = { λ _ fault. fault ≡ Memory };
@@ -58,6 +61,42 @@ impl From<SvdFault> for PacFault {
             }
             SvdFault::Memory => PacFault::Memory,
             fault => PacFault::Svd(fault),
+        }
+    }
+}
+
+impl From<BlockFault> for PacFault {
+    ghost from_gives = { λ error fault. fault ≡ of_block error };
+
+    fn from(error: BlockFault) -> PacFault {
+        match error {
+            BlockFault::Memory => PacFault::Memory,
+            fault => PacFault::Block(fault),
+        }
+    }
+}
+
+impl From<CommandFault> for PacFault {
+    ghost from_gives = { λ error fault. fault ≡ of_commands error };
+
+    fn from(error: CommandFault) -> PacFault {
+        match error {
+            CommandFault::Memory => PacFault::Memory,
+            fault => PacFault::Command(fault),
+        }
+    }
+}
+
+impl<S: Drop> From<Back<S, PatchFault>> for PacFault {
+    ghost from_gives = { λ error fault. fault ≡ of_patching error.fault };
+
+    fn from(error: Back<S, PatchFault>) -> PacFault {
+        match error.fault {
+            PatchFault::TooMany { kind, count } => {
+                PacFault::Limit(LimitFault::TooMany { kind, count })
+            }
+            PatchFault::Memory => PacFault::Memory,
+            fault => PacFault::Patch(fault),
         }
     }
 }

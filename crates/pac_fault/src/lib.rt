@@ -2,10 +2,12 @@
 // line that tells of it.
 #![tactic(auto)]
 
+mod count_text;
 mod fault;
 mod fault_text;
 mod fragment_text;
 mod layers;
+mod patch_text;
 mod status;
 
 pub use fault::{LimitFault, PacFault, WordsFault};

@@ -23,6 +23,7 @@ fn status_at(fault: &PacFault) -> u8
         PacFault::Write => 4,
         PacFault::Bus { .. } => 5,
         PacFault::Svd(_) => 6,
+        PacFault::Block(_) | PacFault::Command(_) | PacFault::Patch(_) => 7,
         PacFault::Derive(_) | PacFault::Dim(_) | PacFault::Check(_) => 8,
         PacFault::CrateText(_) => 9,
         PacFault::Script(_) => 10,

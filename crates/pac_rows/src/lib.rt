@@ -15,6 +15,8 @@ mod harness;
 #[cfg(test)]
 mod inputs;
 #[cfg(test)]
+mod patched;
+#[cfg(test)]
 mod ran;
 #[cfg(test)]
 mod registers;

@@ -120,7 +120,7 @@ bound f None all some = absurd (cc some)
 bound f (Some x) all some = all x
 
 abbrev source_named : List Row → Text → Source
-source_named rows svd = record { svd = svd; strict = is_set (codes "strict") rows }
+source_named rows svd = record { svd = svd; patch = first_of (codes "patch") rows; strict = is_set (codes "strict") rows }
 
 abbrev run_over : Text → BusKind → Run
 run_over script bus = record { script = script; bus = bus }

@@ -8,10 +8,10 @@ use Rattle.pac_words.specs.declared.command.BusKind.{BusKind}
 use Rattle.pac_words.specs.declared.command.BusKind.TheVariants.{Zero, Memory}
 
 listing_of : List ℕ → Option Command
-listing_of svd = Some (Listing (record { svd = svd; strict = false }))
+listing_of svd = Some (Listing (record { svd = svd; patch = None; strict = false }))
 
 strictly_listing : Option Command
-strictly_listing = Some (Listing (record { svd = codes "x.svd"; strict = true }))
+strictly_listing = Some (Listing (record { svd = codes "x.svd"; patch = None; strict = true }))
 
 one_file : command_of (codes "list" ∷ codes "x.svd" ∷ []) ≡ listing_of (codes "x.svd")
 unfolding clap_on_literals command_of listing_of
@@ -75,13 +75,42 @@ two_files : command_of (codes "list" ∷ codes "x.svd" ∷ codes "y.svd" ∷ [])
 unfolding clap_on_literals command_of
 two_files = refl
 
-generated : command_of (codes "generate" ∷ codes "x.svd" ∷ []) ≡ Some (Generating (record { svd = codes "x.svd"; strict = false }))
+generated : command_of (codes "generate" ∷ codes "x.svd" ∷ []) ≡ Some (Generating (record { svd = codes "x.svd"; patch = None; strict = false }))
 unfolding clap_on_literals command_of
 generated = refl
 
-generated_strictly : command_of (codes "generate" ∷ codes "x.svd" ∷ codes "--strict" ∷ []) ≡ Some (Generating (record { svd = codes "x.svd"; strict = true }))
+generated_strictly : command_of (codes "generate" ∷ codes "x.svd" ∷ codes "--strict" ∷ []) ≡ Some (Generating (record { svd = codes "x.svd"; patch = None; strict = true }))
 unfolding clap_on_literals command_of
 generated_strictly = refl
+
+-- ---- `--patch`
+
+patched_listing : List ℕ → Option Command
+patched_listing patch = Some (Listing (record { svd = codes "x.svd"; patch = Some patch; strict = false }))
+
+patched : command_of (codes "list" ∷ codes "x.svd" ∷ codes "--patch" ∷ codes "p.yaml" ∷ []) ≡ patched_listing (codes "p.yaml")
+unfolding clap_on_literals command_of patched_listing
+patched = refl
+
+patched_before : command_of (codes "list" ∷ codes "--patch=p.yaml" ∷ codes "x.svd" ∷ []) ≡ patched_listing (codes "p.yaml")
+unfolding clap_on_literals command_of patched_listing
+patched_before = refl
+
+patched_twice : command_of (codes "list" ∷ codes "x.svd" ∷ codes "--patch=p" ∷ codes "--patch=q" ∷ []) ≡ None
+unfolding clap_on_literals command_of
+patched_twice = refl
+
+no_patch : command_of (codes "list" ∷ codes "x.svd" ∷ codes "--patch" ∷ []) ≡ None
+unfolding clap_on_literals command_of
+no_patch = refl
+
+patch_to_a_crate_text : command_of (codes "exec" ∷ codes "x.rs" ∷ codes "y" ∷ codes "--patch=p" ∷ []) ≡ None
+unfolding clap_on_literals command_of
+patch_to_a_crate_text = refl
+
+generated_patched : command_of (codes "generate" ∷ codes "--patch" ∷ codes "p" ∷ codes "--strict" ∷ codes "x.svd" ∷ []) ≡ Some (Generating (record { svd = codes "x.svd"; patch = Some (codes "p"); strict = true }))
+unfolding clap_on_literals command_of
+generated_patched = refl
 
 -- ---- `exec`
 
@@ -135,11 +164,11 @@ a_bus_that_lists = refl
 
 -- ---- `run`
 
-run_over_memory : command_of (codes "run" ∷ codes "x.svd" ∷ codes "--bus" ∷ codes "memory" ∷ codes "y" ∷ []) ≡ Some (Running (record { svd = codes "x.svd"; strict = false }) (record { script = codes "y"; bus = Memory }))
+run_over_memory : command_of (codes "run" ∷ codes "x.svd" ∷ codes "--bus" ∷ codes "memory" ∷ codes "y" ∷ []) ≡ Some (Running (record { svd = codes "x.svd"; patch = None; strict = false }) (record { script = codes "y"; bus = Memory }))
 unfolding clap_on_literals command_of
 run_over_memory = refl
 
-run_strictly : command_of (codes "run" ∷ codes "x.svd" ∷ codes "y" ∷ codes "--strict" ∷ []) ≡ Some (Running (record { svd = codes "x.svd"; strict = true }) (record { script = codes "y"; bus = Zero }))
+run_strictly : command_of (codes "run" ∷ codes "x.svd" ∷ codes "y" ∷ codes "--strict" ∷ []) ≡ Some (Running (record { svd = codes "x.svd"; patch = None; strict = true }) (record { script = codes "y"; bus = Zero }))
 unfolding clap_on_literals command_of
 run_strictly = refl
 

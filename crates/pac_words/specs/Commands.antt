@@ -15,9 +15,9 @@ use Rattle.pac_words.specs.declared.command.Source.{Source}
 abbrev pub is_set : Text → List Row → Bool
 is_set id rows = option_map_or (λ word. bytes_eq word (codes "true")) (first_of id rows) false
 
--- the description, by what was found for the arguments
+-- the files of a description, by what was found for the arguments
 abbrev pub source_of : List Row → Option Source
-source_of rows = option_map (λ svd. record { svd = svd; strict = is_set (codes "strict") rows }) (first_of (codes "svd") rows)
+source_of rows = option_map (λ svd. record { svd = svd; patch = first_of (codes "patch") rows; strict = is_set (codes "strict") rows }) (first_of (codes "svd") rows)
 
 abbrev pub listing : List Row → Option Command
 listing rows = option_map Listing (source_of rows)

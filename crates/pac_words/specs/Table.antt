@@ -20,9 +20,9 @@ flag id = record (new_rule id) { long = Some id; action = Some SetTrue }
 abbrev pub command : Text → List Rule → Shape
 command name rules = record (new_shape name) { rules = rules }
 
--- the arguments that tell of a description: its file, and whether overlaps are refused
+-- the arguments that tell of a description: its file, a patch to it, and whether overlaps are refused
 abbrev pub source : List Rule
-source = file (codes "svd") ∷ flag (codes "strict") ∷ []
+source = file (codes "svd") ∷ option (codes "patch") ∷ flag (codes "strict") ∷ []
 
 -- a command over a description
 abbrev pub described : Text → App

@@ -42,6 +42,8 @@ pub enum Command {
 pub struct Source {
     /// The name of the description's file, as the words have it.
     pub svd: Text,
+    /// The name of the patch's file, where the words have one.
+    pub patch: Option<Text>,
     /// Whether overlaps are refused.
     pub strict: bool,
 }
@@ -193,6 +195,7 @@ fn source_of(alloc: Global, matches: &ArgMatches<'_>) -> Result<Option<Source>, 
     match value(alloc, matches, "svd")? {
         Some(svd) => Ok(Some(Source {
             svd,
+            patch: value(alloc, matches, "patch")?,
             strict: is_set(matches, "strict"),
         })),
         None => Ok(None),

@@ -36,6 +36,7 @@ fn described<'a>(alloc: Global, name: &'a str) -> Result<Command<'a>, AllocError
 {
     Command::new(alloc, name)
         .arg(file(alloc, "svd"))?
+        .arg(option(alloc, "patch"))?
         .arg(flag(alloc, "strict"))
 }
 

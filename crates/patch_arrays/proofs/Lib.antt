@@ -9,3 +9,16 @@ pub mod Keeping
 pub mod Alike
 pub mod Bridging
 pub mod Likeness
+pub mod TakenIn
+pub mod Told
+pub mod Dimmed
+pub mod Pointwise
+pub mod Near
+pub mod Capping
+pub mod Folding
+pub mod Arranged
+pub mod Checked
+pub mod Refilled
+pub mod Same
+pub mod Edits
+pub mod ByKind

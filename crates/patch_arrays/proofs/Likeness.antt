@@ -32,20 +32,20 @@ use Rattle.svd_values.specs.SchemaWords.{access_text, write_kind_text, read_acti
 pub decides_by : {A : Type 0} (same : A → A → Bool) → ((one other : A) → same one other ≡ true → one ≡ other) → ((one : A) → same one one ≡ true) → (one other : A) → Decides (same one other) (one ≡ other)
 decides_by same alone itself one other = (alone one other, λ e. subst (λ x. same one x ≡ true) e (itself one))
 
-both : (a b : Bool) → (a && b) ≡ true → (a ≡ true) × (b ≡ true)
+pub both : (a b : Bool) → (a && b) ≡ true → (a ≡ true) × (b ≡ true)
 both true b e = (refl, e)
 both false b e = cc
 
-text_alone : (one other : List ℕ) → bytes_eq one other ≡ true → one ≡ other
+pub text_alone : (one other : List ℕ) → bytes_eq one other ≡ true → one ≡ other
 text_alone one other e = (bytes_decides one other).0 e
 
-text_itself : (one : List ℕ) → bytes_eq one one ≡ true
+pub text_itself : (one : List ℕ) → bytes_eq one one ≡ true
 text_itself one = (bytes_decides one one).1 refl
 
-number_alone : (one other : ℕ) → (one == other) ≡ true → one ≡ other
+pub number_alone : (one other : ℕ) → (one == other) ≡ true → one ≡ other
 number_alone one other e = (unsigned_Decides one other).0 e
 
-number_itself : (one : ℕ) → (one == one) ≡ true
+pub number_itself : (one : ℕ) → (one == one) ≡ true
 number_itself one = (unsigned_Decides one one).1 refl
 
 some_number_alone : (one other : Option ℕ) → same_number one other ≡ true → one ≡ other
@@ -66,7 +66,7 @@ written_alone one other e =
 written_itself : (one : Written) → same_written one one ≡ true
 written_itself one = ap₂ (λ (a b : Bool). a && b) (text_itself one.name) (some_number_itself one.index)
 
-list_alone : {A : Type 0} (same : A → A → Bool) → ((one other : A) → same one other ≡ true → one ≡ other) → (one other : List A) → pointwise same one other ≡ true → one ≡ other
+pub list_alone : {A : Type 0} (same : A → A → Bool) → ((one other : A) → same one other ≡ true → one ≡ other) → (one other : List A) → pointwise same one other ≡ true → one ≡ other
 list_alone same alone [] [] e = refl
 list_alone same alone [] (y ∷ ys) e = cc
 list_alone same alone (x ∷ xs) [] e = cc
@@ -74,11 +74,11 @@ list_alone same alone (x ∷ xs) (y ∷ ys) e =
     let parts = both (same x y) (pointwise same xs ys) e in
     ap₂ (λ z zs. z ∷ zs) (alone x y parts.0) (list_alone same alone xs ys parts.1)
 
-list_itself : {A : Type 0} (same : A → A → Bool) → ((one : A) → same one one ≡ true) → (one : List A) → pointwise same one one ≡ true
+pub list_itself : {A : Type 0} (same : A → A → Bool) → ((one : A) → same one one ≡ true) → (one : List A) → pointwise same one one ≡ true
 list_itself same itself [] = refl
 list_itself same itself (x ∷ xs) = ap₂ (λ (a b : Bool). a && b) (itself x) (list_itself same itself xs)
 
-index_alone : (one other : DimIndex) → same_index one other ≡ true → one ≡ other
+pub index_alone : (one other : DimIndex) → same_index one other ≡ true → one ≡ other
 index_alone (Numbers first last) (Numbers begin end) e =
     let parts = both (first == begin) (last == end) e in
     ap₂ Numbers (number_alone first begin parts.0) (number_alone last end parts.1)
@@ -88,7 +88,7 @@ index_alone (Letters first last) (Letters begin end) e =
 index_alone (Words words) (Words others) e = ap Words (list_alone bytes_eq text_alone words others e)
 index_alone _ _ e = cc
 
-index_itself : (one : DimIndex) → same_index one one ≡ true
+pub index_itself : (one : DimIndex) → same_index one one ≡ true
 index_itself (Numbers first last) = ap₂ (λ (a b : Bool). a && b) (number_itself first) (number_itself last)
 index_itself (Letters first last) = ap₂ (λ (a b : Bool). a && b) (number_itself first) (number_itself last)
 index_itself (Words words) = list_itself bytes_eq text_itself words
@@ -185,11 +185,11 @@ row_alone one other e =
 row_itself : (one : Row Step Key) → same_row one one ≡ true
 row_itself one = ap₂ (λ (a b : Bool). a && b) (list_itself same_step same_step-tells.itself one.path) (said_itself one.said)
 
-rows_alone : (one other : Rows) → same_rows one other ≡ true → one ≡ other
+pub rows_alone : (one other : Rows) → same_rows one other ≡ true → one ≡ other
 unfolding same_rows
 rows_alone one other e = list_alone same_row row_alone one other e
 
-rows_itself : (one : Rows) → same_rows one one ≡ true
+pub rows_itself : (one : Rows) → same_rows one one ≡ true
 unfolding same_rows
 rows_itself one = list_itself same_row row_itself one
 

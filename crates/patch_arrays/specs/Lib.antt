@@ -1,3 +1,9 @@
 pub mod Arranging
 pub mod Siblings
+pub mod Members
+pub mod Partings
+pub mod Checks
+pub mod Makings
+pub mod Unplaced
+pub mod Known
 pub mod Laws

@@ -2,3 +2,8 @@ pub mod DeviceKeys
 pub mod Ranked
 pub mod Siblings
 pub mod Changing
+pub mod Closed
+pub mod InLists
+pub mod Kept
+pub mod NewKeys
+pub mod OneChild

@@ -24,12 +24,36 @@ use Rattle.svd_rows.specs.Ranks.{IsRanked, set_key}
 use Rattle.svd_rows.specs.RowEdits.{other_step}
 use Rattle.svd_rows.specs.Rows.{rows}
 
-turned : (one other : Step) → same_step one other ≡ false → same_step other one ≡ false
+pub turned : (one other : Step) → same_step one other ≡ false → same_step other one ≡ false
 turned one other e = cases (same_step other one) refl
   where
     cases : (b : Bool) → same_step other one ≡ b → b ≡ false
     cases true h = sym (same_step-tells.itself one) ∙ ap (same_step one) (sym (same_step-tells.alone other one h)) ∙ e
     cases false h = refl
+
+-- ---- siblings under other steps, and with other keys
+
+module _ (same : Step → Step → Bool) (turns : (one other : Step) → same one other ≡ false → same other one ≡ false) (s : Step) (ks : List Key) (c n : Below) where
+  replaced-absent : (new t : Step) (front : Below) → same t new ≡ false → AllByRecursion (λ other. same t other ≡ false) (steps (join front (node s ks c n))) → AllByRecursion (λ other. same t other ≡ false) (steps (join front (node new ks c n)))
+  unfolding steps join
+  replaced-absent new t leaf differ h = (differ, h.1)
+  replaced-absent new t (node other os d front) differ h = (h.0, replaced-absent new t front differ h.1)
+
+  -- under a step that none of the others has, all are distinct still
+  pub distinct-renamed : (new : Step) (front : Below) → IsAbsent same new front → IsAbsent same new n → IsDistinct same (join front (node s ks c n)) → IsDistinct same (join front (node new ks c n))
+  unfolding IsDistinct steps join
+  distinct-renamed new leaf before behind distinct = (behind, distinct.1, distinct.2)
+  distinct-renamed new (node t ts d front) before behind distinct =
+      (replaced-absent new t front (turns new t before.0) distinct.0, distinct.1, distinct-renamed new front before.1 behind distinct.2)
+
+pub distinct-keys : (same : Step → Step → Bool) (s : Step) (ks new : List Key) (c n front : Below) → IsDistinct same (join front (node s ks c n)) → IsDistinct same (join front (node s new c n))
+unfolding IsDistinct steps join
+distinct-keys same s ks new c n leaf distinct = distinct
+distinct-keys same s ks new c n (node t ts d front) distinct = (kept front distinct.0, distinct.1, distinct-keys same s ks new c n front distinct.2)
+  where
+    kept : (front : Below) → AllByRecursion (λ other. same t other ≡ false) (steps (join front (node s ks c n))) → AllByRecursion (λ other. same t other ≡ false) (steps (join front (node s new c n)))
+    kept leaf h = h
+    kept (node u us e front) h = (h.0, kept front h.1)
 
 -- ---- siblings with one of them between the others
 
@@ -66,18 +90,6 @@ module _ (s : Step) (ks : List Key) (c n : Below) where
   renamed-split new leaf absent behind = ap₂ (λ (u : Step) (g : Below). node u ks c g) (cond-true (same_step s s) new s (same_step-tells.itself s)) (renamed-absent new n behind)
   renamed-split new (node t ts d front) absent behind = ap₂ (λ (u : Step) (g : Below). node u ts d g) (cond-false (same_step s t) new t absent.0) (renamed-split new front absent.1 behind)
 
-  replaced-absent : (new t : Step) (front : Below) → same_step t new ≡ false → AllByRecursion (λ other. same_step t other ≡ false) (steps (join front (node s ks c n))) → AllByRecursion (λ other. same_step t other ≡ false) (steps (join front (node new ks c n)))
-  unfolding steps join
-  replaced-absent new t leaf differ h = (differ, h.1)
-  replaced-absent new t (node other os d front) differ h = (h.0, replaced-absent new t front differ h.1)
-
-  -- under a step that none of the others has, all are distinct still
-  pub distinct-renamed : (new : Step) (front : Below) → IsAbsent same_step new front → IsAbsent same_step new n → IsDistinct same_step (join front (node s ks c n)) → IsDistinct same_step (join front (node new ks c n))
-  unfolding IsDistinct steps join
-  distinct-renamed new leaf before behind distinct = (behind, distinct.1, distinct.2)
-  distinct-renamed new (node t ts d front) before behind distinct =
-      (replaced-absent new t front (turned new t before.0) distinct.0, distinct.1, distinct-renamed new front before.1 behind distinct.2)
-
   -- ---- its rows
 
   pub under-name : (keys : List Key) (front : Below) (name : List ℕ) → IsDistinct same_step (join front (node s ks c n)) → under_name s name (rows (tree_with keys (join front (node s ks c n)))) ≡ rows (tree_with keys (join front (node (renamed_step name s) ks c n)))
@@ -85,15 +97,6 @@ module _ (s : Step) (ks : List Key) (c n : Below) where
   under-name keys front name distinct =
       sym (rows-with_renamed [] (other_step same_step s (renamed_step name s)) (tree_with keys (join front (node s ks c n))))
       ∙ ap (λ (f : Below). rows (tree_with keys f)) (renamed-split (renamed_step name s) front (absent-before front distinct) (absent-behind front distinct))
-
-pub distinct-keys : (s : Step) (ks new : List Key) (c n front : Below) → IsDistinct same_step (join front (node s ks c n)) → IsDistinct same_step (join front (node s new c n))
-unfolding IsDistinct steps join
-distinct-keys s ks new c n leaf distinct = distinct
-distinct-keys s ks new c n (node t ts d front) distinct = (same front distinct.0, distinct.1, distinct-keys s ks new c n front distinct.2)
-  where
-    same : (front : Below) → AllByRecursion (λ other. same_step t other ≡ false) (steps (join front (node s ks c n))) → AllByRecursion (λ other. same_step t other ≡ false) (steps (join front (node s new c n)))
-    same leaf h = h
-    same (node u us e front) h = (h.0, same front h.1)
 
 one-set : (keys : List Key) (s : Step) (c n front : Below) (one : Key) (ks : List Key) → IsDistinct same_step (join front (node s ks c n)) → IsRanked rank ks → with_keys (s ∷ []) (one ∷ []) (rows (tree_with keys (join front (node s ks c n)))) ≡ rows (tree_with keys (join front (node s (set_key rank one ks) c n)))
 unfolding with_keys within element_at
@@ -110,11 +113,11 @@ unfolding with_keys keys_with
 all-set keys s c n front [] ks distinct ranked = refl
 all-set keys s c n front (one ∷ new) ks distinct ranked =
     ap (with_keys (s ∷ []) new) (one-set keys s c n front one ks distinct ranked)
-    ∙ all-set keys s c n front new (set_key rank one ks) (distinct-keys s ks (set_key rank one ks) c n front distinct) (set-ranked one ks ranked)
+    ∙ all-set keys s c n front new (set_key rank one ks) (distinct-keys same_step s ks (set_key rank one ks) c n front distinct) (set-ranked one ks ranked)
 
 -- ---- names of siblings
 
-any-append : {A : Type 0} (test : A → Bool) (xs ys : List A) → list_any test (xs ++ ys) ≡ (list_any test xs || list_any test ys)
+pub any-append : {A : Type 0} (test : A → Bool) (xs ys : List A) → list_any test (xs ++ ys) ≡ (list_any test xs || list_any test ys)
 any-append test [] ys = refl
 any-append test (x ∷ xs) ys = cases (test x) (any-append test xs ys)
   where

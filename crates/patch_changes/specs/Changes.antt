@@ -20,21 +20,26 @@ named line others step None = Ok step
 named line others step (Some name) = refused_if (list_any (is_named name) others) (AddExists line name) (Ok (renamed_step name step))
 
 -- of the children, those that the pattern matches are changed
-abbrev pub new_step : Bool → ℕ → KeyList → List Step → Step → Outcome Step
-new_step true line texts others step = named line others step (new_name texts)
-new_step false line texts others step = Ok step
+abbrev pub new_step : Bool → ℕ → Option (List ℕ) → List Step → Step → Outcome Step
+new_step true line name others step = named line others step name
+new_step false line name others step = Ok step
 
 abbrev pub new_keys : Bool → KeyList → Step → List Key → List Key
 new_keys true texts step keys = keys_with (keys_set (container_of step.kind) texts) keys
 new_keys false texts step keys = keys
 
 -- one sibling after the other, behind those before it as they are then
-unfoldable pub changed_behind : ℕ → PatternItems → KeyList → List Step → Below → Outcome Below
-changed_behind line pattern texts before leaf = Ok leaf
-changed_behind line pattern texts before (node step keys children others) =
-    new_step (selects pattern step) line texts (before ++ steps others) step
-    >>= (λ new. changed_behind line pattern texts (before ++ new ∷ []) others
+unfoldable pub changed_behind : ℕ → PatternItems → KeyList → Option (List ℕ) → List Step → Below → Outcome Below
+changed_behind line pattern texts name before leaf = Ok leaf
+changed_behind line pattern texts name before (node step keys children others) =
+    new_step (selects pattern step) line name (before ++ steps others) step
+    >>= (λ new. changed_behind line pattern texts name (before ++ new ∷ []) others
     >>= (λ rest. Ok (node new (new_keys (selects pattern step) texts step keys) children rest)))
 
-unfoldable pub changed_below : ℕ → PatternItems → KeyList → Option Kind → Below → Outcome Below
-changed_below line pattern texts kind below = but_in_field line kind (unless_none line (matched pattern below) (changed_behind line pattern texts [] below))
+-- the children with the keys that texts set, and under a new name where there is one
+unfoldable pub changed_with : ℕ → PatternItems → KeyList → Option (List ℕ) → Option Kind → Below → Outcome Below
+changed_with line pattern texts name kind below = but_in_field line kind (unless_none line (matched pattern below) (changed_behind line pattern texts name [] below))
+
+-- the new name is one of the keys
+abbrev pub changed_below : ℕ → PatternItems → KeyList → Option Kind → Below → Outcome Below
+changed_below line pattern texts = changed_with line pattern texts (new_name texts)

@@ -1,11 +1,11 @@
 -- What the code of a copy makes of the child that it finds.
-use Rattle.std.proofs.Common.{◌≡◌, ◌⊎◌, ℕ, List, Option, Some, None, option_map, Result, Ok, Err, MatchResult, IfOk, refl, sym, ap, ap₂, ◌∙◌, subst, inl, inr}
+use Rattle.std.proofs.Common.{◌≡◌, ◌⊎◌, ℕ, List, Option, Some, None, option_map, Result, Ok, Err, MatchResult, IfOk, refl, sym, ap, ◌∙◌, subst, inl, inr}
 use Rattle.pac_base.specs.declared.memory.NoMemory.{NoMemory}
 use Rattle.patch_model.specs.Acts.{KeyList}
 use Rattle.patch_sem.specs.declared.fault.PatchFault.{PatchFault}
 use Rattle.patch_sem.specs.declared.fault.PatchFault.TheVariants.{CopyMissing, Memory}
 use Rattle.patch_sem.specs.Steps.{Outcome}
-use Rattle.patch_copies.specs.Copies.{IsMissing, copy_of, with_set}
+use Rattle.patch_copies.specs.Copies.{IsMissing, copy_of}
 use Rattle.patch_growth.specs.Grown.{Makes}
 use Rattle.svd_model.specs.declared.device.Item.{Item}
 use Rattle.svd_model.specs.declared.sibling.Sibling.{Sibling}
@@ -13,10 +13,8 @@ use Rattle.svd_model.proofs.Trees.{item_under-is}
 use Rattle.svd_model.specs.Keys.{Key}
 use Rattle.svd_model.specs.Steps.{Kind, Step}
 use Rattle.svd_model.specs.Trees.{child_tree, item_under, step_of}
-use Rattle.svd_rows.specs.Forest.{Forest, Tree}
-use Rattle.svd_schema.specs.declared.container.Container.{Container}
-use Rattle.patch_sem.specs.Settings.{container_of, keys_set, keys_with}
-use Rattle.patch_settings.specs.Setting.{IsSet}
+use Rattle.svd_rows.specs.Forest.{Tree}
+use Rattle.patch_settings.specs.Setting.{with_set}
 
 -- what was made is what the steps come to
 pub finishes : {V B : Type 0} (seen : V → B) (outcome : Outcome B) (value : B) (made : Result V NoMemory) (result : Result V PatchFault) → outcome ≡ Ok value → IfOk made (λ v. seen v ≡ value) → MatchResult made (λ v. result ≡ Ok v) (λ fault. result ≡ Err Memory) → Makes seen outcome result
@@ -52,17 +50,3 @@ module _ (line : ℕ) (from : List ℕ) (texts : KeyList) where
   pub item-missing : (o : Option Item) → None ≡ o → copy_of line from texts (option_map item_under o) ≡ Err (CopyMissing line from)
   item-missing None e = refl
   item-missing (Some other) e = absurd cc
-
--- ---- keys that are set
-
-pub set-tree : (held : Container) (texts : KeyList) (old new : Tree Step Key) → IsSet held texts old new → new ≡ record { keys = keys_with (keys_set held texts) old.keys; below = old.below }
-set-tree held texts old new is = ap₂ (λ (keys : List Key) (below : Forest Step Key). record { keys = keys; below = below }) is.keys is.below
-
-pub if_ok : {P Q : Type 0} (result : Result (Unit {0}) NoMemory) → (P → Q) → IfOk result (λ done. P) → IfOk result (λ done. Q)
-if_ok (Ok done) more p = more p
-if_ok (Err fault) more p = tt
-
--- a child in which keys are set
-pub child-set : (texts : KeyList) (kind : Kind) (was now : Kind × Tree Step Key) (old new : Tree Step Key) → was ≡ (kind, old) → now ≡ (kind, new) → IsSet (container_of kind) texts old new → now ≡ with_set texts was
-child-set texts kind was now old new before after is =
-    after ∙ ap (λ (tree : Tree Step Key). (kind, tree)) (set-tree (container_of kind) texts old new is) ∙ ap (with_set texts) (sym before)

@@ -2,16 +2,16 @@
 use Rattle.std.proofs.Common.{◌≡◌, ℕ, Bool, true, false, cond, List, Option, Some, None, Ok, Err, refl, subst}
 use Rattle.patch_model.specs.Acts.{KeyList}
 use Rattle.patch_sem.specs.declared.fault.PatchFault.TheVariants.{CopyMissing}
-use Rattle.patch_sem.specs.Selecting.{is_named, is_patched}
+use Rattle.patch_sem.specs.Selecting.{is_named}
 use Rattle.patch_sem.specs.Steps.{Outcome}
 use Rattle.patch_edits.specs.Visits.{Below}
 use Rattle.patch_copies.proofs.Copying.{first-passes, kind-known, some_is}
 use Rattle.patch_growth.proofs.Sound.{Fine, IsSound, IsSoundChild, MakesSound}
-use Rattle.patch_copies.specs.Copies.{copies_child, copy_of, first_child, with_set}
-use Rattle.patch_settings.proofs.Keeping.{setting-keeps}
-use Rattle.svd_model.specs.Facts.{HasForm, IsPlacedOrDerived}
+use Rattle.patch_copies.specs.Copies.{copies_child, copy_of, first_child}
+use Rattle.patch_settings.specs.Setting.{with_set}
+use Rattle.patch_settings.proofs.Keeping.{renamed-keeps, setting-keeps}
 use Rattle.svd_model.specs.Keys.{Key}
-use Rattle.svd_model.specs.Steps.{Kind, Step, peripheral, cluster, register, field, set, value}
+use Rattle.svd_model.specs.Steps.{Kind, Step}
 use Rattle.svd_rows.specs.Elements.{Every, IsDistinct}
 use Rattle.svd_rows.specs.Forest.{Tree, leaf, node}
 
@@ -31,25 +31,6 @@ first-sound test (node s ks c n) child sound e = cases (test s) e (first-sound t
     cases true found more = subst (λ (x : Step × Tree Step Key). Fine x.0 x.1.keys × IsSound x.1.below) (some_is (s, record { keys = ks; below = c }) child found) (sound.elements.0, record { elements = sound.elements.1; distinct = sound.distinct.1 })
     cases false found more = more found
 
-form-renamed : (kind : Kind) (old name : List ℕ) (number : ℕ) (keys : List Key) → is_patched kind ≡ true → HasForm IsPlacedOrDerived (record { kind = kind; name = old; number = number }) keys → HasForm IsPlacedOrDerived (record { kind = kind; name = name; number = 0 }) keys
-form-renamed peripheral old name number keys known form = refl
-form-renamed cluster old name number keys known form = refl
-form-renamed register old name number keys known form = refl
-form-renamed field old name number keys known form = (refl, form.1)
-form-renamed set old name number keys known form = tt
-form-renamed value old name number keys known form = absurd (no known)
-  where
-    no : false ≡ true → ⊥
-    no e = cc
-
--- under another name
-renamed-fine : (step : Step) (name : List ℕ) (keys : List Key) → is_patched step.kind ≡ true → Fine step keys → Fine (record { kind = step.kind; name = name; number = 0 }) keys
-renamed-fine step name keys known fine = record {
-  form = form-renamed step.kind step.name name step.number keys known fine.form;
-  bounded = fine.bounded;
-  indexed = fine.indexed;
-}
-
 pub copy-sound : (line : ℕ) (name from : List ℕ) (texts : KeyList) → MakesSound (copies_child line name from texts)
 copy-sound line name from texts kind f child known typed sound e = cases (first_child (is_named from) f) refl e
   where
@@ -66,6 +47,6 @@ copy-sound line name from texts kind f child known typed sound e = cases (first_
         let good = first-sound (is_named from) f old sound is in
         subst (IsSoundChild name) (made_is (with_set texts (old.0.kind, old.1)) child e)
         (record {
-          itself = setting-keeps (record { kind = old.0.kind; name = name; number = 0 }) texts old.1.keys patched (renamed-fine old.0 name old.1.keys patched good.0);
+          itself = setting-keeps (record { kind = old.0.kind; name = name; number = 0 }) texts old.1.keys patched (renamed-keeps old.0 name old.1.keys patched good.0);
           below = good.1;
         })

@@ -4,8 +4,8 @@ use Rattle.patch_model.specs.Acts.{KeyList}
 use Rattle.patch_sem.specs.declared.fault.PatchFault.{PatchFault}
 use Rattle.patch_sem.specs.declared.fault.PatchFault.TheVariants.{CopyMissing, Memory}
 use Rattle.patch_sem.specs.Selecting.{is_named}
-use Rattle.patch_sem.specs.Settings.{container_of, keys_set, keys_with}
 use Rattle.patch_sem.specs.Steps.{Outcome}
+use Rattle.patch_settings.specs.Setting.{with_set}
 use Rattle.patch_edits.specs.Visits.{Below}
 use Rattle.patch_growth.specs.Growths.{Growth}
 use Rattle.svd_model.specs.Keys.{Key}
@@ -17,11 +17,6 @@ unfoldable pub first_child : (Step → Bool) → Below → Option (Step × Tree 
 first_child test leaf = None
 first_child test (node step keys children siblings) =
     cond (test step) (Some (step, record { keys = keys; below = children })) (first_child test siblings)
-
--- an element with other keys
-abbrev pub with_set : KeyList → (Kind × Tree Step Key) → (Kind × Tree Step Key)
-with_set keys child =
-    (child.0, record { keys = keys_with (keys_set (container_of child.0) keys) child.1.keys; below = child.1.below })
 
 abbrev pub copy_of : ℕ → List ℕ → KeyList → Option (Step × Tree Step Key) → Outcome (Kind × Tree Step Key)
 copy_of line from keys None = Err (CopyMissing line from)

@@ -1,11 +1,11 @@
 ghost use Rattle.std.specs.Prelude.{◌≡◌, ◌⊎◌, IfErr, IfOk, MatchResult, Ok, Err, find, map, option_map, is_some};
 ghost use Rattle.std.specs.Option.{option_copied};
 ghost use Rattle.std.specs.Str.{bytes_eq};
-ghost use Rattle.patch_copies.specs.Copies.{copies_child, with_set};
-ghost use Rattle.patch_copies.specs.Copies.{IsMissing};
+ghost use Rattle.patch_copies.specs.Copies.{IsMissing, copies_child};
 ghost use Rattle.patch_edits.specs.Commands.{IsApplied, order_at};
 ghost use Rattle.patch_model.specs.Acts.{copies};
 ghost use Rattle.patch_sem.specs.declared.fault.PatchFault.TheVariants.{Memory};
+ghost use Rattle.patch_settings.specs.Setting.{with_set};
 ghost use Rattle.svd_model.specs.Facts.{IsDescribed};
 ghost use Rattle.svd_model.specs.Steps.{peripheral, field};
 ghost use Rattle.svd_model.specs.Trees.{device_rows, child_tree, field_tree, peripheral_tree};
@@ -15,7 +15,7 @@ use indexmap::IndexMap;
 use pac_base::{Name, NoMemory, Text};
 use patch_growth::{Maker, walk};
 use patch_sem::PatchFault;
-use patch_settings::{set_cluster, set_field, set_peripheral, set_register};
+use patch_settings::{set_child, set_field, set_peripheral};
 use std::alloc::Global;
 use svd_model::{
     Child, Device, Field, Item, Peripheral, Sibling, copied_child, copied_field, copied_peripheral,
@@ -61,15 +61,6 @@ fn missing(alloc: Global, line: u32, name: &Name) -> PatchFault
     match name.copy(alloc) {
         Ok(name) => PatchFault::CopyMissing { line, name },
         Err(NoMemory) => PatchFault::Memory,
-    }
-}
-
-fn set_child(alloc: Global, keys: &[(Text, Text)], child: &mut Child) -> Result<(), NoMemory>
-    ensures { IfOk result (λ done. child_tree child.new ≡ with_set keys.now (child_tree child.old)) }
-{
-    match child {
-        Child::Cluster(cluster) => set_cluster(alloc, keys, cluster),
-        Child::Register(register) => set_register(alloc, keys, register),
     }
 }
 

@@ -7,7 +7,7 @@ use Rattle.patch_sem.specs.Selecting.{selects}
 use Rattle.patch_sem.specs.Steps.{Outcome, ◌>>=◌}
 use Rattle.patch_edits.proofs.Contexts.{tree_with}
 use Rattle.patch_edits.proofs.Keeping.{Keeps, visited-distinct, visited-every}
-use Rattle.patch_edits.proofs.Walks.{Agrees, Shrinks, visited-fewer, walk-applied}
+use Rattle.patch_edits.proofs.Walks.{Agrees, AgreesWhere, GoesDown, Shrinks, visited-fewer, walk-applied, walk-applied-where}
 use Rattle.patch_edits.specs.Commands.{IsApplied}
 use Rattle.patch_edits.specs.Edits.{Edited}
 use Rattle.patch_edits.specs.Visits.{Below, visited}
@@ -21,18 +21,25 @@ use Rattle.svd_rows.specs.Elements.{Every, IsDistinct}
 use Rattle.svd_rows.specs.LookUps.{element_paths}
 use Rattle.svd_rows.specs.Rows.{rows}
 
+module _ (order : Order) (edit : Option Kind → Below → Outcome Below) (keys : List Key) (f : Below) where
+  left-of : (new : Below) (result : Result (Unit {0}) PatchFault) → applied order (rows (tree_with keys f)) ≡ (visited edit (map selects order.parents) None f >>= (λ left. Ok (rows (tree_with keys left))))
+      → Edited (visited edit (map selects order.parents) None f) new result → IsApplied order (rows (tree_with keys f)) (rows (tree_with keys new)) result
+  left-of new (Ok done) walked e = walked ∙ ap (λ (made : Outcome Below). made >>= (λ left. Ok (rows (tree_with keys left)))) e
+  left-of new (Err fault) walked (inl memory) = inl memory
+  left-of new (Err fault) walked (inr e) = inr (walked ∙ ap (λ (made : Outcome Below). made >>= (λ left. Ok (rows (tree_with keys left)))) e)
+
 pub device-applied : (order : Order) (edit : Option Kind → Below → Outcome Below) → Agrees order edit → Shrinks edit → (keys : List Key) (f new : Below) (result : Result (Unit {0}) PatchFault) → IsDistinct same_key f → elements_in f ≤ element_limit
     → places_of order.deed order.parents (rows (tree_with keys f)) ≡ element_paths (map selects order.parents) (rows (tree_with keys f))
     → Edited (visited edit (map selects order.parents) None f) new result → IsApplied order (rows (tree_with keys f)) (rows (tree_with keys new)) result
-device-applied order edit agrees shrinks keys f new result distinct few places e = cases result e
-  where
-    walked : applied order (rows (tree_with keys f)) ≡ (visited edit (map selects order.parents) None f >>= (λ left. Ok (rows (tree_with keys left))))
-    walked = walk-applied order edit agrees shrinks keys f (IsDistinct-finer same_key same_step same_step-finer f distinct) few places
+device-applied order edit agrees shrinks keys f new result distinct few places e =
+    left-of order edit keys f new result (walk-applied order edit agrees shrinks keys f (IsDistinct-finer same_key same_step same_step-finer f distinct) few places) e
 
-    cases : (result : Result (Unit {0}) PatchFault) → Edited (visited edit (map selects order.parents) None f) new result → IsApplied order (rows (tree_with keys f)) (rows (tree_with keys new)) result
-    cases (Ok done) e = walked ∙ ap (λ (made : Outcome Below). made >>= (λ left. Ok (rows (tree_with keys left)))) e
-    cases (Err fault) (inl memory) = inl memory
-    cases (Err fault) (inr e) = inr (walked ∙ ap (λ (made : Outcome Below). made >>= (λ left. Ok (rows (tree_with keys left)))) e)
+-- the same where something holds of what is below each element
+pub device-applied-where : (Holds : Option Kind → Below → Type 0) → GoesDown Holds → (order : Order) (edit : Option Kind → Below → Outcome Below) → AgreesWhere Holds order edit → Shrinks edit → (keys : List Key) (f new : Below) (result : Result (Unit {0}) PatchFault) → Holds None f → IsDistinct same_key f → elements_in f ≤ element_limit
+    → places_of order.deed order.parents (rows (tree_with keys f)) ≡ element_paths (map selects order.parents) (rows (tree_with keys f))
+    → Edited (visited edit (map selects order.parents) None f) new result → IsApplied order (rows (tree_with keys f)) (rows (tree_with keys new)) result
+device-applied-where Holds down order edit agrees shrinks keys f new result holds distinct few places e =
+    left-of order edit keys f new result (walk-applied-where Holds down order edit agrees shrinks keys f holds (IsDistinct-finer same_key same_step same_step-finer f distinct) few places) e
 
 -- and the description stays one, where the edit keeps what is said of each element and that siblings are distinct
 pub device-folded : (OfField : List Key → Type 0) (edit : Option Kind → Below → Outcome Below) (tests : List (Step → Bool)) → Shrinks edit → Keeps (Every (IsElement OfField)) edit → Keeps (IsDistinct same_key) edit → (keys : List Key) (f new : Below) (result : Result (Unit {0}) PatchFault)

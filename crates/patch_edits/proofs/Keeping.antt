@@ -31,7 +31,7 @@ module _ (test : Step → Bool) (edit : Kind → Below → Outcome Below) where
       kept (Every P) (node s ks first.0 second.0) new second.2
       (h.0, only-kept (Every P) edit keeps (test s) s.kind c first.0 first.1 h.1, each-every P keeps n second.0 second.1 h.2)
 
-  each-steps : (f new : Below) → each test edit f ≡ Ok new → steps f ≡ steps new
+  pub each-steps : (f new : Below) → each test edit f ≡ Ok new → steps f ≡ steps new
   unfolding each steps
   each-steps leaf new e = ap steps (given_is leaf new e)
   each-steps (node s ks c n) new e =

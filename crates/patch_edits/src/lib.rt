@@ -9,5 +9,5 @@ mod walking;
 
 pub use deletion::delete;
 pub use edit::Edit;
-pub use opening::open;
+pub use opening::{matches_item, matches_one, open};
 pub use walking::walk;

@@ -22,8 +22,8 @@ pub(crate) struct Opening<'a> {
     pattern: &'a Pattern,
 }
 
-// Whether the pattern matches the name of an entry.
-fn matches_one<V>(pattern: &Pattern, entries: &IndexMap<Sibling, V>) -> bool
+/// Whether the pattern matches the name of an entry.
+pub fn matches_one<V>(pattern: &Pattern, entries: &IndexMap<Sibling, V>) -> bool
     ensures { result ≡ list_any (λ entry. matches pattern.now entry.0.name) entries.now.entries }
 {
     for (key, _) in entries {
@@ -34,8 +34,8 @@ fn matches_one<V>(pattern: &Pattern, entries: &IndexMap<Sibling, V>) -> bool
     false
 }
 
-// Whether the pattern matches the name of an item.
-fn matches_item(pattern: &Pattern, items: &[Item]) -> bool
+/// Whether the pattern matches the name of an item.
+pub fn matches_item(pattern: &Pattern, items: &[Item]) -> bool
     ensures { result ≡ list_any (λ item. matches pattern.now item.key.name) items.now }
 {
     for item in items {

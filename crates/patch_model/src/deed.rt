@@ -30,7 +30,7 @@ pub fn copied(alloc: Global, patterns: &Patterns) -> Result<Patterns, NoMemory>
 {
     let mut copy = Patterns::new(alloc);
     for pattern in patterns.as_slice() {
-        copy.push(pattern.copy(alloc)?)?;
+        copy.push(pattern.copy()?)?;
     }
     Ok(copy)
 }

@@ -33,7 +33,7 @@ fn opening(
 {
     let pattern = pattern_of(alloc, key)?;
     let mut inner = copied(alloc, parents)?;
-    inner.push(pattern.copy(alloc)?)?;
+    inner.push(pattern.copy()?)?;
     put(alloc, line, Act::Open(pattern), parents, made)?;
     Ok(inner)
 }

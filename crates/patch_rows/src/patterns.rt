@@ -77,7 +77,7 @@ fn other_texts_are_bad_patterns(rt: HostRuntime) -> Result<(), Fail> {
 #[test]
 fn copied_and_without_the_open_item(rt: HostRuntime) -> Result<(), Fail> {
     let pattern = Pattern::new(rt.alloc(), b" C[1-4]R")?;
-    assert!(rt; pattern.copy(rt.alloc())?.matches(b"C3R"));
+    assert!(rt; pattern.copy()?.matches(b"C3R"));
     let plain = pattern.without_open(rt.alloc())?.ok_or("a text")?;
     assert!(rt; plain.as_slice() == b"CR".as_slice());
     let two = Pattern::new(rt.alloc(), b"C*R?")?;

@@ -1,12 +1,13 @@
 -- What is said of an element of a description holds where keys that texts set are set in it.
 use Rattle.std.proofs.Common.{◌≡◌, ℕ, ◌^◌, Bool, true, false, cond, ◌||◌, nat_eq, nat_lt, eqb-true, List, [], ◌∷◌, refl, sym, ap, ◌∙◌}
 use Rattle.std.specs.List.{AllByRecursion, list_any}
+use Rattle.patch_sem.specs.Copying.{renamed_step}
 use Rattle.patch_sem.specs.Settings.{container_of, keys_set, keys_with}
 use Rattle.patch_sem.specs.Selecting.{is_patched}
 use Rattle.patch_settings.proofs.KeyForms.{AreGood, IsSetAt, keys_set-good}
 use Rattle.patch_settings.specs.Places.{fitting}
 use Rattle.patch_settings.specs.Setting.{SettingKeepsElements}
-use Rattle.svd_model.specs.Facts.{HasForm, IsBounded, IsIndexed, IsPlacedOrDerived, is_derived, is_offset}
+use Rattle.svd_model.specs.Facts.{HasForm, IsBounded, IsElement, IsIndexed, IsPlacedOrDerived, is_derived, is_offset}
 use Rattle.svd_model.specs.Keys.{Key, rank, device_name, derived_from, dim_count, dim_increment, dim_index, base_address, at_offset, bit_width, alternate_of, alternate_group, register_size, register_access, reset_value, reset_mask, write_kind, read_action, value_usage, enumerated_value}
 use Rattle.svd_model.specs.Steps.{Kind, Step, peripheral, cluster, register, field, set, value}
 use Rattle.svd_rows.specs.Ranks.{set_key}
@@ -118,3 +119,24 @@ setting-keeps step texts keys patched is =
       bounded = keys_with-all (IsBounded (2 ^ 64)) new keys (bounded-of (fitting (container_of step.kind)) new good) is.bounded;
       indexed = keys_with-all IsIndexed new keys (indexed-of (fitting (container_of step.kind)) new good) is.indexed;
     }
+
+-- ---- another name
+
+form-renamed : (kind : Kind) (old name : List ℕ) (number : ℕ) (keys : List Key) → is_patched kind ≡ true → HasForm IsPlacedOrDerived (record { kind = kind; name = old; number = number }) keys → HasForm IsPlacedOrDerived (record { kind = kind; name = name; number = 0 }) keys
+form-renamed peripheral old name number keys known form = refl
+form-renamed cluster old name number keys known form = refl
+form-renamed register old name number keys known form = refl
+form-renamed field old name number keys known form = (refl, form.1)
+form-renamed set old name number keys known form = tt
+form-renamed value old name number keys known form = absurd (no known)
+  where
+    no : false ≡ true → ⊥
+    no e = cc
+
+-- what is said of an element known to patches holds of it under another name
+pub renamed-keeps : (step : Step) (name : List ℕ) (keys : List Key) → is_patched step.kind ≡ true → IsElement IsPlacedOrDerived step keys → IsElement IsPlacedOrDerived (renamed_step name step) keys
+renamed-keeps step name keys known fine = record {
+  form = form-renamed step.kind step.name name step.number keys known fine.form;
+  bounded = fine.bounded;
+  indexed = fine.indexed;
+}

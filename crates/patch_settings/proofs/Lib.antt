@@ -7,3 +7,5 @@ pub mod MergedKeys
 pub mod Putting
 pub mod LookingUp
 pub mod Gathering
+pub mod ChildKeys
+pub mod Filled

@@ -1,13 +1,13 @@
-ghost use Rattle.std.specs.Prelude.{IfOk};
-ghost use Rattle.patch_settings.specs.Setting.{IsSet};
-ghost use Rattle.svd_model.specs.Trees.{cluster_tree, device_tree, field_tree, peripheral_tree, register_tree};
+ghost use Rattle.std.specs.Prelude.{◌≡◌, IfOk};
+ghost use Rattle.patch_settings.specs.Setting.{IsSet, with_set};
+ghost use Rattle.svd_model.specs.Trees.{child_tree, cluster_tree, device_tree, field_tree, peripheral_tree, register_tree};
 ghost use Rattle.svd_schema.specs.declared.container.Container.TheVariants as container;
 
 use crate::merging::{in_cluster, in_device, in_field, in_peripheral, in_register};
 use crate::settings::Settings;
 use pac_base::{NoMemory, Text};
 use std::alloc::Global;
-use svd_model::{Cluster, Device, Field, Peripheral, Register};
+use svd_model::{Child, Cluster, Device, Field, Peripheral, Register};
 use svd_schema::Container;
 
 /// Sets the keys of a peripheral that the texts give, each a key with its value; a key that peripherals don't have,
@@ -48,6 +48,16 @@ pub fn set_register(
 {
     in_register(Settings::of(alloc, Container::Register, keys)?, register);
     Ok(())
+}
+
+/// The same of what stands in a peripheral or cluster.
+pub fn set_child(alloc: Global, keys: &[(Text, Text)], child: &mut Child) -> Result<(), NoMemory>
+    ensures { IfOk result (λ done. child_tree child.new ≡ with_set keys.now (child_tree child.old)) }
+{
+    match child {
+        Child::Cluster(cluster) => set_cluster(alloc, keys, cluster),
+        Child::Register(register) => set_register(alloc, keys, register),
+    }
 }
 
 /// The same of a field. Its place is set by the first form that stands: `bitRange`, `lsb` with `msb`, or what stands

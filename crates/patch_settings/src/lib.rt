@@ -8,6 +8,11 @@ mod merging;
 mod path;
 mod place;
 mod settings;
+mod start;
 
-pub use element::{set_cluster, set_device_keys, set_field, set_peripheral, set_register};
+pub use element::{
+    set_child, set_cluster, set_device_keys, set_field, set_peripheral, set_register,
+};
 pub use law::setting_law;
+pub use place::value_at;
+pub use start::{sets_base, sets_offset};

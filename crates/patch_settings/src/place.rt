@@ -15,8 +15,8 @@ fn is_key(key: &Text, name: &[u8]) -> bool
     name == key.as_str().as_bytes()
 }
 
-// The value of the first key of that name.
-fn value_at<'a>(keys: &'a [(Text, Text)], name: &[u8]) -> Option<&'a Text>
+/// The value of the first key of that name.
+pub fn value_at<'a>(keys: &'a [(Text, Text)], name: &[u8]) -> Option<&'a Text>
     ensures { option_map (λ text. text.now) result ≡ lookup (bytes_eq name.now) keys.now }
 {
     for entry in keys {

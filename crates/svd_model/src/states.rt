@@ -74,13 +74,6 @@ impl Model for Patched {
 }
 
 impl Patched {
-    /// The described device as it is, which no patch changes.
-    pub fn of(state: Described) -> Patched
-        ensures { result ≡ state }
-    {
-        Patched::new(state.into_device())
-    }
-
     /// The device in this state. Its condition is what the state says of a device.
     pub fn new(device: Device) -> Patched
         requires { IsDescribed device }

@@ -1,6 +1,8 @@
-use Rattle.std.proofs.Common.{◌≡◌, ◌∷◌, [], List, None, ap, ap₂, sym, ◌∙◌, subst, arith}
+use Rattle.std.proofs.Common.{◌≡◌, ◌∷◌, [], ◌-◌, List, length, take, slice_index_or, rules, None, ap, ap₂, sym, ◌∙◌, subst, arith}
 use Rattle.pac_cli.specs.Buses.{bus_of, kinds_of, missing_kind, place_in, slots_of}
 use Rattle.pac_cli.specs.Worlds.{paper}
+use Rattle.pac_cli.specs.Resolving.{bytes_in}
+use Rattle.pac_cli.proofs.Sources.{has_generated, last_input}
 use Rattle.pac_cli.proofs.Scripts.{executed, has_run, others_executed, others_run, two_inputs}
 use Rattle.pac_cli.proofs.Slots.{others_stay, told_after, told_before}
 use Rattle.pac_words.specs.declared.command.Command.{Command}
@@ -12,14 +14,14 @@ returns-in-Executing-len2-clause-does g c =
     let lent = c.args.buses.now.items in
     let kind = c.in-Executing-len2.run'.bus in
     let slot = c.index_mut.result.now in
-    let is_place = c.place_of-place.ensures ∙ ap (λ (all : List _). place_in kind (kinds_of (slots_of told all))) c.as_slice-in-Executing-len2.ensures.value in
+    let is_place = c.place_of-place.ensures ∙ ap (λ (all : List _). place_in kind (kinds_of (slots_of told all))) c.as_slice.ensures.value in
     let there : missing_kind (bus_of c.args.command.now) (kinds_of (slots_of told lent)) ≡ None = c.requires.lent in
     let not_missing = subst (λ (command : Command). missing_kind (bus_of command) (kinds_of (slots_of told lent)) ≡ None) c.in-Executing-len2.is-0 there in
-    executed c.args.command.now c.in-Executing-len2.krate-0 c.in-Executing-len2.run' c.args.inputs.now c.as_slice-in-Executing-len2-2.result.now c.as_slice-in-Executing-len2-3.result.now
+    executed c.args.command.now c.in-Executing-len2.krate-0 c.in-Executing-len2.run' c.args.inputs.now c.as_slice-in-Executing-len2.result.now c.as_slice-in-Executing-len2-2.result.now
     (paper (g.S.Sink.written c.args.out.now) (g.S.Sink.faults c.args.out.now)) (paper (g.S.Sink.written c.execute.new.out) (g.S.Sink.faults c.execute.new.out))
     (slots_of told lent) _ (told slot.bus) (told c.execute.new.bus) c.execute.result c.in-Executing-len2.is-0
     (two_inputs c.args.inputs.now c.krate-item.result c.script-item.result (omega (arith, c.in-Executing-len2.len_at_least, c.in-Executing-len2.len_below)) c.krate-item.is c.script-item.is
-    ∙ ap₂ (λ a b. a ∷ b ∷ []) (sym c.as_slice-in-Executing-len2-2.ensures) (sym c.as_slice-in-Executing-len2-3.ensures))
+    ∙ ap₂ (λ a b. a ∷ b ∷ []) (sym c.as_slice-in-Executing-len2.ensures) (sym c.as_slice-in-Executing-len2-2.ensures))
     (told_before told kind lent slot c.execute.new.bus c.place_of-place.result is_place not_missing c.index_mut.ensures.value)
     (told_after told kind lent slot c.execute.new.bus c.place_of-place.result is_place not_missing c.index_mut.ensures.value)
     c.execute.ensures
@@ -30,38 +32,47 @@ returns-in-Executing-len2-clause-others g c =
     let lent = c.args.buses.now.items in
     let kind = c.in-Executing-len2.run'.bus in
     let slot = c.index_mut.result.now in
-    let is_place = c.place_of-place.ensures ∙ ap (λ (all : List _). place_in kind (kinds_of (slots_of told all))) c.as_slice-in-Executing-len2.ensures.value in
+    let is_place = c.place_of-place.ensures ∙ ap (λ (all : List _). place_in kind (kinds_of (slots_of told all))) c.as_slice.ensures.value in
     let there : missing_kind (bus_of c.args.command.now) (kinds_of (slots_of told lent)) ≡ None = c.requires.lent in
     let not_missing = subst (λ (command : Command). missing_kind (bus_of command) (kinds_of (slots_of told lent)) ≡ None) c.in-Executing-len2.is-0 there in
     others_executed c.args.command.now c.in-Executing-len2.krate-0 c.in-Executing-len2.run' _ _ c.in-Executing-len2.is-0
     (others_stay told kind lent slot c.execute.new.bus c.place_of-place.result is_place not_missing c.index_mut.ensures.value)
 
-pub returns-in-Running-len2-clause-does : goal.returns-in-Running-len2-clause-does
-returns-in-Running-len2-clause-does g c =
+pub returns-in-Generating-default-clause-does : goal.returns-in-Generating-default-clause-does
+returns-in-Generating-default-clause-does g c =
+    has_generated c.args.command.now c.in-Generating-default.source c.args.inputs.now (bytes_in c.described-in-Generating-default.result)
+    (paper (g.S.Sink.written c.args.out.now) (g.S.Sink.faults c.args.out.now)) (paper (g.S.Sink.written c.generate.new.out) (g.S.Sink.faults c.generate.new.out))
+    (slots_of g.B.Bus.told c.args.buses.now.items) (slots_of g.B.Bus.told c.args.buses.now.items) c.generate.result
+    c.in-Generating-default.is-0 c.described-in-Generating-default.ensures.files c.generate.ensures.does
+
+pub returns-in-Running-len1-up-clause-does : goal.returns-in-Running-len1-up-clause-does
+returns-in-Running-len1-up-clause-does g c =
     let told = g.B.Bus.told in
     let lent = c.args.buses.now.items in
-    let kind = c.in-Running-len2.run'.bus in
-    let slot = c.index_mut-in-Running-len2.result.now in
-    let is_place = c.place_of-place-in-Running-len2.ensures ∙ ap (λ (all : List _). place_in kind (kinds_of (slots_of told all))) c.as_slice-in-Running-len2.ensures.value in
+    let kind = c.in-Running-len1-up.run'.bus in
+    let slot = c.index_mut-in-Running-len1-up.result.now in
+    let is_place = c.place_of-place-in-Running-len1-up.ensures ∙ ap (λ (all : List _). place_in kind (kinds_of (slots_of told all))) c.as_slice-in-Running-len1-up.ensures.value in
     let there : missing_kind (bus_of c.args.command.now) (kinds_of (slots_of told lent)) ≡ None = c.requires.lent in
-    let not_missing = subst (λ (command : Command). missing_kind (bus_of command) (kinds_of (slots_of told lent)) ≡ None) c.in-Running-len2.is-0 there in
-    has_run c.args.command.now c.in-Running-len2.source c.in-Running-len2.run' c.args.inputs.now c.as_slice-in-Running-len2-2.result.now c.as_slice-in-Running-len2-3.result.now
+    let not_missing = subst (λ (command : Command). missing_kind (bus_of command) (kinds_of (slots_of told lent)) ≡ None) c.in-Running-len1-up.is-0 there in
+    let script = c.as_slice-in-Running-len1-up-2.result.now in
+    let is_last : script ≡ slice_index_or c.args.inputs.now (length c.args.inputs.now - 1) script = search rules in
+    has_run c.args.command.now c.in-Running-len1-up.source c.in-Running-len1-up.run' c.args.inputs.now (take (length c.args.inputs.now - 1) c.args.inputs.now)
+    (bytes_in c.described-source.result) script
     (paper (g.S.Sink.written c.args.out.now) (g.S.Sink.faults c.args.out.now)) (paper (g.S.Sink.written c.run_against.new.out) (g.S.Sink.faults c.run_against.new.out))
-    (slots_of told lent) _ (told slot.bus) (told c.run_against.new.bus) c.policy_of-policy.result c.run_against.result c.in-Running-len2.is-0 c.policy_of-policy.ensures
-    (two_inputs c.args.inputs.now c.svd-item-then-this-lt3-2.result c.script-item-then-this-lt3-2.result (omega (arith, c.in-Running-len2.len_at_least, c.in-Running-len2.len_below)) c.svd-item-then-this-lt3-2.is c.script-item-then-this-lt3-2.is
-    ∙ ap₂ (λ a b. a ∷ b ∷ []) (sym c.as_slice-in-Running-len2-2.ensures) (sym c.as_slice-in-Running-len2-3.ensures))
-    (told_before told kind lent slot c.run_against.new.bus c.place_of-place-in-Running-len2.result is_place not_missing c.index_mut-in-Running-len2.ensures.value)
-    (told_after told kind lent slot c.run_against.new.bus c.place_of-place-in-Running-len2.result is_place not_missing c.index_mut-in-Running-len2.ensures.value)
+    (slots_of told lent) _ (told slot.bus) (told c.run_against.new.bus) c.run_against.result c.in-Running-len1-up.is-0
+    (last_input c.args.inputs.now script c.in-Running-len1-up.len_at_least is_last) c.described-source.ensures.files
+    (told_before told kind lent slot c.run_against.new.bus c.place_of-place-in-Running-len1-up.result is_place not_missing c.index_mut-in-Running-len1-up.ensures.value)
+    (told_after told kind lent slot c.run_against.new.bus c.place_of-place-in-Running-len1-up.result is_place not_missing c.index_mut-in-Running-len1-up.ensures.value)
     c.run_against.ensures
 
-pub returns-in-Running-len2-clause-others : goal.returns-in-Running-len2-clause-others
-returns-in-Running-len2-clause-others g c =
+pub returns-in-Running-len1-up-clause-others : goal.returns-in-Running-len1-up-clause-others
+returns-in-Running-len1-up-clause-others g c =
     let told = g.B.Bus.told in
     let lent = c.args.buses.now.items in
-    let kind = c.in-Running-len2.run'.bus in
-    let slot = c.index_mut-in-Running-len2.result.now in
-    let is_place = c.place_of-place-in-Running-len2.ensures ∙ ap (λ (all : List _). place_in kind (kinds_of (slots_of told all))) c.as_slice-in-Running-len2.ensures.value in
+    let kind = c.in-Running-len1-up.run'.bus in
+    let slot = c.index_mut-in-Running-len1-up.result.now in
+    let is_place = c.place_of-place-in-Running-len1-up.ensures ∙ ap (λ (all : List _). place_in kind (kinds_of (slots_of told all))) c.as_slice-in-Running-len1-up.ensures.value in
     let there : missing_kind (bus_of c.args.command.now) (kinds_of (slots_of told lent)) ≡ None = c.requires.lent in
-    let not_missing = subst (λ (command : Command). missing_kind (bus_of command) (kinds_of (slots_of told lent)) ≡ None) c.in-Running-len2.is-0 there in
-    others_run c.args.command.now c.in-Running-len2.source c.in-Running-len2.run' _ _ c.in-Running-len2.is-0
-    (others_stay told kind lent slot c.run_against.new.bus c.place_of-place-in-Running-len2.result is_place not_missing c.index_mut-in-Running-len2.ensures.value)
+    let not_missing = subst (λ (command : Command). missing_kind (bus_of command) (kinds_of (slots_of told lent)) ≡ None) c.in-Running-len1-up.is-0 there in
+    others_run c.args.command.now c.in-Running-len1-up.source c.in-Running-len1-up.run' _ _ c.in-Running-len1-up.is-0
+    (others_stay told kind lent slot c.run_against.new.bus c.place_of-place-in-Running-len1-up.result is_place not_missing c.index_mut-in-Running-len1-up.ensures.value)

@@ -12,7 +12,7 @@ use Rattle.pac_cli.specs.Buses.{bus_asked, bus_of, kinds_of, lent_for, missing_k
 use Rattle.pac_cli.proofs.Slots.{none_changes}
 use Rattle.pac_cli.specs.Stages.{Does}
 use Rattle.pac_cli.specs.Worlds.{desk, paper, world}
-use Rattle.pac_cli.proofs.Standing.{no_bus_lent, not_gathered, others_of, performed}
+use Rattle.pac_cli.proofs.Standing.{no_bus_lent, no_memory_yet, not_commanded, not_gathered, others_of, performed}
 use Rattle.pac_cli.proofs.run.answer.Goals as goal
 
 pub returns-in_err-command-clause-others : goal.returns-in_err-command-clause-others
@@ -26,6 +26,19 @@ returns-in_err-wanted-clause-others g c = none_changes (bus_asked (command_of c.
 
 pub returns-in_err-inputs-clause-others : goal.returns-in_err-inputs-clause-others
 returns-in_err-inputs-clause-others g c = none_changes (bus_asked (command_of c.args.words.now)) (slots_of g.B.Bus.told c.args.buses.now.items)
+
+pub returns-in_err-command-clause-stands : goal.returns-in_err-command-clause-stands
+returns-in_err-command-clause-stands g c =
+    let p = err_from_is_err_and c.from_residual.result c.from_residual.ensures.1 in
+    rw (p.1, p.2) (not_commanded c.args.words.now
+    (world (shelf (g.F.Files.told c.args.files.now) (g.F.Files.asked c.args.files.now) (g.F.Files.faults c.args.files.now)) (paper (g.S.Sink.written c.args.out.now) (g.S.Sink.faults c.args.out.now)) (slots_of g.B.Bus.told c.args.buses.now.items))
+    c.in_err-command.field-0.0 c.in_err-command.ensures)
+
+pub returns-in_err-wanted-clause-stands : goal.returns-in_err-wanted-clause-stands
+returns-in_err-wanted-clause-stands g c =
+    let p = err_from_is_err_and c.from_residual-in_err-wanted.result c.from_residual-in_err-wanted.ensures.1 in
+    rw (p.1, p.2) (no_memory_yet c.args.words.now
+    (world (shelf (g.F.Files.told c.args.files.now) (g.F.Files.asked c.args.files.now) (g.F.Files.faults c.args.files.now)) (paper (g.S.Sink.written c.args.out.now) (g.S.Sink.faults c.args.out.now)) (slots_of g.B.Bus.told c.args.buses.now.items)))
 
 pub returns-in_err-find_bus-clause-stands : goal.returns-in_err-find_bus-clause-stands
 returns-in_err-find_bus-clause-stands g c =

@@ -1,6 +1,6 @@
 use Rattle.std.proofs.Common.{ap, ◌∙◌}
-use Rattle.patch_copies.proofs.Copied.{set-tree}
-use Rattle.patch_copies.specs.Copies.{with_set}
+use Rattle.patch_settings.proofs.ChildKeys.{set-tree}
+use Rattle.patch_settings.specs.Setting.{with_set}
 use Rattle.svd_model.specs.Steps.{peripheral}
 use Rattle.svd_model.specs.Trees.{peripheral_tree}
 use Rattle.svd_schema.specs.declared.container.Container.TheVariants as container

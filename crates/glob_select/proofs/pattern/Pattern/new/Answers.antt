@@ -18,7 +18,7 @@ returns-in_err-from_slice-clause-refused c =
 pub returns-clause-spelled : goal.returns-clause-spelled
 returns-clause-spelled c =
     let last : is_last (after_led c.args.text.now) ≡ true = ap is_last (sym c.after_led-last.ensures) ∙ sym c.is_last.ensures ∙ c.if-not-is_last.false in
-    subst (λ (text : List ℕ). SpellsPattern (alternatives_of text) c.args.text.now) (sym c.in_ok-from_slice.ensures.items) (pattern_takes c.args.text.now last)
+    subst (λ (text : List ℕ). SpellsPattern (alternatives_of text) c.args.text.now) (sym c.in_ok-from_slice.ensures.ok) (pattern_takes c.args.text.now last)
 
 pub returns-clause-only : goal.returns-clause-only
-returns-clause-only c = λ other spelled. (pattern_again other c.args.text.now spelled).1 ∙ ap alternatives_of (sym c.in_ok-from_slice.ensures.items)
+returns-clause-only c = λ other spelled. (pattern_again other c.args.text.now spelled).1 ∙ ap alternatives_of (sym c.in_ok-from_slice.ensures.ok)

@@ -4,7 +4,8 @@ use Rattle.std.specs.Str.{bytes_eq}
 use Rattle.patch_copies.proofs.Copied.{finishes, item-copied, item-missing, missing-so}
 use Rattle.patch_copies.proofs.Named.{first-named}
 use Rattle.patch_growth.proofs.NewChild.{item-named}
-use Rattle.patch_copies.specs.Copies.{copy_of, with_set}
+use Rattle.patch_copies.specs.Copies.{copy_of}
+use Rattle.patch_settings.specs.Setting.{with_set}
 use Rattle.svd_model.specs.Trees.{child_tree, item_under}
 use Rattle.patch_copies.proofs.copies.CopyingMaker.child.Goals as goal
 

@@ -4,7 +4,8 @@ use Rattle.std.specs.Str.{bytes_eq}
 use Rattle.patch_sem.specs.Selecting.{is_named}
 use Rattle.patch_copies.proofs.Copied.{entry-copied, entry-missing, finishes, missing-so}
 use Rattle.patch_copies.proofs.Named.{first-named}
-use Rattle.patch_copies.specs.Copies.{copy_of, with_set}
+use Rattle.patch_copies.specs.Copies.{copy_of}
+use Rattle.patch_settings.specs.Setting.{with_set}
 use Rattle.svd_model.specs.Steps.{peripheral}
 use Rattle.svd_model.specs.Trees.{peripheral_tree, peripheral_under}
 use Rattle.patch_copies.proofs.copies.CopyingMaker.peripheral.Goals as goal

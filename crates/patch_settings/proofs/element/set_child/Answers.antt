@@ -1,9 +1,9 @@
 use Rattle.std.proofs.Common.{ap, ◌∙◌}
-use Rattle.patch_copies.proofs.Copied.{child-set, if_ok}
+use Rattle.patch_settings.proofs.ChildKeys.{child-set, if_ok}
 use Rattle.svd_model.proofs.Trees.{child_tree-cluster, child_tree-register}
 use Rattle.svd_model.specs.Steps.{cluster, register}
 use Rattle.svd_model.specs.Trees.{child_tree, cluster_tree, register_tree}
-use Rattle.patch_copies.proofs.copies.set_child.Goals as goal
+use Rattle.patch_settings.proofs.element.set_child.Goals as goal
 
 pub returns-in-Cluster : goal.returns-in-Cluster
 returns-in-Cluster c =

@@ -1,0 +1,7 @@
+use Rattle.std.proofs.Common.{map, drop}
+use Rattle.patch_additions.proofs.Loops.{RegistersSoFar}
+use Rattle.patch_model.specs.Acts.{addition_under}
+use Rattle.patch_additions.proofs.addition.made_registers.Given as goal
+
+abbrev pub invariant-loop-addition : goal.invariant-loop-addition
+invariant-loop-addition l = RegistersSoFar (map addition_under l.additions) l.made.items (map addition_under (drop l.addition-index l.additions))

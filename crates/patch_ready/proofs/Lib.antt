@@ -1,0 +1,4 @@
+mod Unique
+mod Apart
+mod NewNames
+mod Spelled

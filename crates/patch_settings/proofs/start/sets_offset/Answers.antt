@@ -1,0 +1,15 @@
+use Rattle.std.proofs.Common.{refl, ap, ◌∙◌}
+use Rattle.patch_sem.specs.Settings.{keys_set}
+use Rattle.patch_settings.proofs.Filled.{filled, sets-filled, stated-filled}
+use Rattle.patch_settings.specs.Places.{KeyPlaces, places}
+use Rattle.svd_model.specs.Keys.{at_offset}
+use Rattle.svd_schema.specs.declared.container.Container.TheVariants as container
+use Rattle.patch_settings.proofs.start.sets_offset.Goals as goal
+
+pub returns : goal.returns
+unfolding places
+returns c =
+    c.is_some.ensures
+    ∙ stated-filled at_offset c.in_ok-settings.settings.place.offset
+    ∙ ap (λ (all : KeyPlaces). filled all 6) c.in_ok-settings.ensures
+    ∙ sets-filled 6 (keys_set container.Register c.args.keys.now) refl
