@@ -1,5 +1,5 @@
 #!/usr/bin/env bash
-# The package examples/blinky-crate: its text is what is printed of its description, and its tests pass. Says nothing where
+# The package examples/blinky-crate: its text is what is printed of its description with its patch, and its tests pass. Says nothing where
 # both hold, one line where no cargo is there, and ends with 1 where one doesn't.
 top="$(cd "$(dirname "$0")/.." && pwd)" || exit 1
 program="$top/crates/pac_main/out/pac_main"
@@ -14,7 +14,7 @@ fail() {
 }
 
 if [ -x "$program" ]; then
-    "$program" generate "$package/ex32.svd" >"$folder/device.rs" || fail "its description is refused"
+    "$program" generate "$package/ex32.svd" --patch "$package/ex32.yaml" >"$folder/device.rs" || fail "its description is refused"
     diff "$package/src/device.rs" "$folder/device.rs" >&2 || fail "its crate text differs"
 fi
 if command -v cargo >/dev/null; then
