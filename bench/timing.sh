@@ -32,9 +32,6 @@ least() {
 
 # apart: the seconds of reading $folder/crate.rs, and of reading and typing it, by the texts of refused_texts in that folder
 apart() {
-    local broken deep
-    broken="$(least 9 'pac: crate text: syntax' "$program" exec "$folder/broken.rs" "$folder/none.script")" || return
-    deep="$(least 9 'pac: crate text: nesting' "$program" exec "$folder/deep.rs" "$folder/none.script")" || return
+    read_time="$(least 9 'pac: crate text: syntax' "$program" exec "$folder/broken.rs" "$folder/none.script")" || return
     typed_time="$(least 9 'pac: crate text: block too large' "$program" exec "$folder/past.rs" "$folder/none.script")" || return
-    read_time="$(awk -v b="$broken" -v d="$deep" 'BEGIN { print b - d }')"
 }
