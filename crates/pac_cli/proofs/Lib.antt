@@ -4,6 +4,7 @@ pub mod Slots
 pub mod Doing
 pub mod Sources
 pub mod Scripts
+pub mod Samples
 pub mod Standing
 pub mod OneAnswer
 pub mod RefusedWords

@@ -1,9 +1,9 @@
 -- The words, the lent buses and the files decide one answer at most, so the one that comes is that one.
-use Rattle.std.proofs.Common.{ℕ, ◌≡◌, ◌⊎◌, List, [], ◌∷◌, Option, Some, None, IfSome, refl, sym, ap, ◌∙◌, subst, inl, inr}
+use Rattle.std.proofs.Common.{ℕ, ◌≡◌, ◌⊎◌, Bool, true, false, List, [], ◌∷◌, Option, Some, None, IfSome, refl, sym, ap, ◌∙◌, subst, inl, inr}
 use Rattle.svd_reader.specs.Described.{Answer as Reading, HasAnswer}
 use Rattle.pac_words.specs.Commands.{command_of}
 use Rattle.pac_words.specs.declared.command.Command.{Command}
-use Rattle.pac_words.specs.declared.command.Command.TheVariants.{Executing, Generating, Listing, Running}
+use Rattle.pac_words.specs.declared.command.Command.TheVariants.{Executing, Generating, Listing, Running, Sampling}
 use Rattle.pac_words.specs.declared.command.BusKind.{BusKind}
 use Rattle.pac_fault.specs.Classes.{Class, no_memory, bad_words, bad_read, bad_write, bad_bus, long_file, bad_input, class_of}
 use Rattle.pac_fault.specs.declared.fault.PacFault.{PacFault}
@@ -15,9 +15,11 @@ use Rattle.frag_sem.specs.TextSurface.{text_surface}
 use Rattle.frag_tree.specs.declared.event.Event.{Event}
 use Rattle.frag_tree.specs.declared.script.Script.{Script}
 use Rattle.pac_bus.specs.Acts.{Act}
-use Rattle.pac_cli.specs.Answers.{Cause, Plan, Answer, refused, does, generated, listed, scripted, table_plan, text_plan, AnswersOnCrate, AnswersOnRows, AnswersRun, AnswersScript, Decides, DecidesOn, DecidesRun, DecidesSource, DecidesText, AnswersAsked, AnswersCommand, AnswersWithout, IsAnswer}
+use Rattle.pac_cli.specs.Answers.{Cause, Plan, Answer, refused, does, generated, listed, scripted, table_plan, table_sum, text_plan, sample_bytes, has_numbers, AnswersNumbered, AnswersOnCrate, AnswersOnRows, AnswersOnSample, AnswersRun, AnswersScript, Decides, DecidesOn, DecidesRun, DecidesSample, DecidesSource, DecidesText, AnswersAsked, AnswersCommand, AnswersWithout, IsAnswer}
 use Rattle.pac_cli.specs.Buses.{bus_of, kinds_of, missing_kind}
 use Rattle.pac_cli.specs.Scripts.{CrateReading, untyped, typed}
+use Rattle.pac_sample.specs.Script.{sample_script}
+use Rattle.pac_sample.specs.Wanted.{numbers_given}
 use Rattle.pac_inputs.specs.Gathering.{FileMap, Gathering, inputs_are, is_too_long, Gathered, gathered_from}
 use Rattle.pac_inputs.specs.declared.gathering.Wanted.{Wanted}
 use Rattle.pac_cli.specs.Inputs.{files_of}
@@ -114,12 +116,25 @@ one_for_run read source (svd ∷ script ∷ []) one other a b = one_run read (by
 one_for_run read source (svd ∷ patch ∷ script ∷ []) one other a b = one_run read (bytes_of source svd (Some patch)) script one other a b
 one_for_run read source (svd ∷ patch ∷ script ∷ next ∷ inputs) one other a b = absurd a
 
+one_on_sample : (count : ℕ) (resolution : Resolution) (one other : Answer) → AnswersOnSample count resolution one → AnswersOnSample count resolution other → one ≡ other
+one_on_sample count (stopped why) one other a b = a ∙ sym b
+one_on_sample count (resolved rows) one other a b = one_for_script (table_surface rows) (table_sum count rows) (sample_script count) one other a b
+
+one_for_sample : OneReading → (numbers : Option (ℕ × ℕ)) (inputs : List (List ℕ)) (one other : Answer) → DecidesSample numbers inputs one → DecidesSample numbers inputs other → one ≡ other
+one_for_sample read None inputs one other a b = absurd a
+one_for_sample read (Some numbers) [] one other a b =
+    one_on_sample numbers.1 b.resolution one other
+    (subst (λ (resolution : Resolution). AnswersOnSample numbers.1 resolution one)
+    (same_resolution read (sample_bytes numbers.0 numbers.1) a.resolution b.resolution a.comes b.comes) a.answered) b.answered
+one_for_sample read (Some numbers) (bytes ∷ inputs) one other a b = absurd a
+
 -- a command and its inputs decide one answer at most
 pub one_decision_lem : OneReading → (command : Command) (inputs : List (List ℕ)) (one other : Answer) → Decides command inputs one → Decides command inputs other → one ≡ other
 one_decision_lem read (Listing source) inputs one other a b = one_for_source read listed source inputs one other a b
 one_decision_lem read (Generating source) inputs one other a b = one_for_source read generated source inputs one other a b
 one_decision_lem read (Executing krate run) inputs one other a b = one_for_text inputs one other a b
 one_decision_lem read (Running source run) inputs one other a b = one_for_run read source inputs one other a b
+one_decision_lem read (Sampling number count) inputs one other a b = one_for_sample read (numbers_given number count) inputs one other a b
 
 one_on : OneReading → (command : Command) (gathering : Gathering) (one other : Answer) → DecidesOn command gathering one → DecidesOn command gathering other → one ≡ other
 one_on read command (inputs_are inputs) one other a b = one_decision_lem read command inputs one other a b
@@ -146,9 +161,14 @@ one_without : OneReading → (missing : Option BusKind) (command : Command) (fil
 one_without read (Some kind) command files one other a b = a ∙ sym b
 one_without read None command files one other a b = one_for_command read command files one other a b
 
+one_numbered : OneReading → (has : Bool) (command : Command) (kinds : List BusKind) (files : FileMap) (one other : Answer) → AnswersNumbered has command kinds (Some files) one
+    → AnswersNumbered has command kinds (Some files) other → one ≡ other
+one_numbered read false command kinds files one other a b = a ∙ sym b
+one_numbered read true command kinds files one other a b = one_without read (missing_kind (bus_of command) kinds) command files one other a b
+
 one_for : OneReading → (asked : Option Command) (kinds : List BusKind) (files : FileMap) (one other : Answer) → AnswersAsked asked kinds (Some files) one → AnswersAsked asked kinds (Some files) other → one ≡ other
 one_for read None kinds files one other a b = a ∙ sym b
-one_for read (Some command) kinds files one other a b = one_without read (missing_kind (bus_of command) kinds) command files one other a b
+one_for read (Some command) kinds files one other a b = one_numbered read (has_numbers command) command kinds files one other a b
 
 -- the words, the kinds of the lent buses and the files decide one answer at most
 pub one_answer_lem : OneReading → (words : List (List ℕ)) (kinds : List BusKind) (files : FileMap) (one other : Answer) → IsAnswer words kinds (Some files) one → IsAnswer words kinds (Some files) other → one ≡ other

@@ -247,7 +247,7 @@ only_memory made krate.Memory fits h = refl
 
 -- a script does against a crate that stands for rows what it does against their register table
 same_plan : (rows : List (Row Step Key)) (made : CrateTree) → StandsFor rows made → text_plan made ≡ table_plan rows
-same_plan rows made stands = λ i text. record { presets = stands.presets text i; events = λ answers. stands.meaning text answers i; text = event_text }
+same_plan rows made stands = λ i text. record { presets = stands.presets text i; events = λ answers. stands.meaning text answers i; text = event_text; left = event_text }
 
 -- a description that comes to no rows is refused
 pub stops_run : (source : SourceBytes) (bytes : List ℕ) (why : Unresolved) → ComeTo source (stopped why) → AnswersRun source bytes (refused (unresolved why))

@@ -1,5 +1,5 @@
 -- From what each stage of a command leaves to what stands after the call.
-use Rattle.std.proofs.Common.{ℕ, ◌≡◌, List, [], ◌++◌, Option, Some, None, IfSome, Result, Ok, Err, refl, sym, ap, subst, inl}
+use Rattle.std.proofs.Common.{ℕ, ◌≡◌, Bool, true, false, List, [], ◌++◌, Option, Some, None, IfSome, Result, Ok, Err, refl, sym, ap, subst, inl}
 use Rattle.std.proofs.lemmas.List.{append-nil}
 use Rattle.std.specs.Result.{result_err}
 use Rattle.pac_words.specs.Commands.{command_of}
@@ -8,8 +8,8 @@ use Rattle.pac_words.specs.declared.command.Command.{Command}
 use Rattle.pac_fault.specs.Classes.{Class, no_memory, bad_words, bad_read, bad_write, bad_bus, long_file, bad_input, class_of}
 use Rattle.pac_fault.specs.declared.fault.PacFault.{PacFault}
 use Rattle.pac_fault.specs.declared.fault.PacFault.TheVariants.{Memory, Words}
-use Rattle.pac_fault.specs.declared.fault.WordsFault.TheVariants.{NoBus}
-use Rattle.pac_cli.specs.Answers.{no_bus, no_command, file_too_long, Answer, refused, AnswersAsked, AnswersWithout, Decides, DecidesOn, IsAnswer}
+use Rattle.pac_fault.specs.declared.fault.WordsFault.TheVariants.{BadNumber, NoBus}
+use Rattle.pac_cli.specs.Answers.{bad_number, no_bus, no_command, file_too_long, Answer, refused, AnswersAsked, AnswersNumbered, AnswersWithout, has_numbers, Decides, DecidesOn, IsAnswer}
 use Rattle.pac_cli.specs.Buses.{OthersStay, Slot, bus_asked, bus_of, kinds_of, lent_for, missing_kind}
 use Rattle.pac_inputs.specs.Gathering.{FileMap, Gathering, inputs_are, is_too_long, Gathered}
 use Rattle.pac_inputs.specs.Reads.{GathersAll, GathersNot}
@@ -72,10 +72,26 @@ module _ (words : List (List ℕ)) (command : Command) (taken : command_of words
   the_desk : (now : World) → desk now.paper (lent_for (bus_of command) now.slots) ≡ desk_of words now
   the_desk now = ap (λ (asked : Option Command). desk now.paper (lent_for (bus_asked asked) now.slots)) (sym taken)
 
+  -- the command hasn't its numbers
+  pub no_numbers : (now : World) (fault : PacFault) → has_numbers command ≡ false → fault ≡ Words BadNumber → Stands words now now (Some fault)
+  no_numbers now fault has is = subst (λ (f : PacFault). Stands words now now (Some f)) (sym is) (
+    asks_nothing now.shelf,
+    record {
+      reads = refl;
+      refusal = record {
+        nothing = nothing_done (desk_of words now);
+        cause = bad_number;
+        decided = subst (λ (asked : Option Command). AnswersAsked asked (kinds_of now.slots) now.shelf.files (refused bad_number)) (sym taken)
+            (subst (λ (b : Bool). AnswersNumbered b command (kinds_of now.slots) now.shelf.files (refused bad_number)) (sym has) refl);
+        shown = refl;
+      };
+    },
+  )
+
   -- no bus is lent of the kind that the command wants
-  pub no_bus_lent : (now : World) (fault : PacFault) (kind : BusKind) → missing_kind (bus_of command) (kinds_of now.slots) ≡ Some kind → fault ≡ Words (NoBus kind)
+  pub no_bus_lent : (numbered : has_numbers command ≡ true) (now : World) (fault : PacFault) (kind : BusKind) → missing_kind (bus_of command) (kinds_of now.slots) ≡ Some kind → fault ≡ Words (NoBus kind)
       → Stands words now now (Some fault)
-  no_bus_lent now fault kind missing is = subst (λ (f : PacFault). Stands words now now (Some f)) (sym is) (
+  no_bus_lent numbered now fault kind missing is = subst (λ (f : PacFault). Stands words now now (Some f)) (sym is) (
     asks_nothing now.shelf,
     record {
       reads = refl;
@@ -83,7 +99,8 @@ module _ (words : List (List ℕ)) (command : Command) (taken : command_of words
         nothing = nothing_done (desk_of words now);
         cause = no_bus kind;
         decided = subst (λ (asked : Option Command). AnswersAsked asked (kinds_of now.slots) now.shelf.files (refused (no_bus kind))) (sym taken)
-            (subst (λ (found : Option BusKind). AnswersWithout found command now.shelf.files (refused (no_bus kind))) (sym missing) refl);
+            (subst (λ (b : Bool). AnswersNumbered b command (kinds_of now.slots) now.shelf.files (refused (no_bus kind))) (sym numbered)
+            (subst (λ (found : Option BusKind). AnswersWithout found command now.shelf.files (refused (no_bus kind))) (sym missing) refl));
         shown = refl;
       };
     },
@@ -93,13 +110,14 @@ module _ (words : List (List ℕ)) (command : Command) (taken : command_of words
   pub others_of : (old new : List Slot) → OthersStay (bus_of command) old new → OthersStay (bus_asked (command_of words)) old new
   others_of old new h = subst (λ (asked : Option Command). OthersStay (bus_asked asked) old new) (sym taken) h
 
-  module _ (slots : List Slot) (lent : missing_kind (bus_of command) (kinds_of slots) ≡ None) where
+  module _ (slots : List Slot) (numbered : has_numbers command ≡ true) (lent : missing_kind (bus_of command) (kinds_of slots) ≡ None) where
     -- the answer to the words is that of their command
     the_answer : (told : Option FileMap) (answer : Answer) (gathering : Gathering) → Gathered told (files_of command) gathering → DecidesOn command gathering answer
         → IsAnswer words (kinds_of slots) told answer
     the_answer told answer gathering gathered decided =
         subst (λ (asked : Option Command). AnswersAsked asked (kinds_of slots) told answer) (sym taken)
-        (subst (λ (found : Option BusKind). AnswersWithout found command told answer) (sym lent) (record { gathering = gathering; gathered = gathered; decided = decided }))
+        (subst (λ (b : Bool). AnswersNumbered b command (kinds_of slots) told answer) (sym numbered)
+        (subst (λ (found : Option BusKind). AnswersWithout found command told answer) (sym lent) (record { gathering = gathering; gathered = gathered; decided = decided })))
 
     -- the files weren't read
     not_read : (class : Class) (old new : Shelf) (paper : Paper) (fault : PacFault) → GathersNot class (files_of command) old new fault

@@ -6,7 +6,7 @@ use Rattle.pac_cli.specs.declared.slot.BusSlot.{BusSlot}
 use Rattle.pac_words.specs.declared.command.BusKind.{BusKind}
 use Rattle.pac_words.specs.declared.command.BusKind.TheVariants as bus
 use Rattle.pac_words.specs.declared.command.Command.{Command}
-use Rattle.pac_words.specs.declared.command.Command.TheVariants.{Executing, Generating, Listing, Running}
+use Rattle.pac_words.specs.declared.command.Command.TheVariants.{Executing, Generating, Listing, Running, Sampling}
 
 -- a bus that is lent: of which kind it is, and what it tells
 pub record Slot : Type 0 where
@@ -32,6 +32,7 @@ bus_of (Listing source) = None
 bus_of (Generating source) = None
 bus_of (Executing krate run) = Some run.bus
 bus_of (Running source run) = Some run.bus
+bus_of (Sampling number count) = Some bus.Memory
 
 -- that of the command that words ask for
 abbrev pub bus_asked : Option Command → Option BusKind

@@ -10,7 +10,7 @@ use Rattle.pac_cli.specs.Inputs.{files_of}
 use Rattle.pac_cli.specs.Resolving.{ComeTo, SourceBytes, bytes_of, resolved}
 use Rattle.pac_inputs.specs.Gathering.{FileMap, Gathered, inputs_are}
 use Rattle.pac_words.specs.declared.command.Command.{Command}
-use Rattle.pac_words.specs.declared.command.Command.TheVariants.{Executing, Generating, Listing, Running}
+use Rattle.pac_words.specs.declared.command.Command.TheVariants.{Executing, Generating, Listing, Running, Sampling}
 use Rattle.svd_model.specs.Keys.{Key}
 use Rattle.svd_model.specs.Steps.{Step}
 use Rattle.svd_rows.specs.Rows.{Row}
@@ -38,6 +38,7 @@ abbrev pub WritesText : Command → List (List ℕ) → Option (List ℕ) → Op
 WritesText (Listing source) inputs old new = ⊤
 WritesText (Executing krate run) inputs old new = ⊤
 WritesText (Running source run) inputs old new = ⊤
+WritesText (Sampling number count) inputs old new = ⊤
 WritesText (Generating source) (svd ∷ []) old new = WritesTextFor (bytes_of source svd None) old new
 WritesText (Generating source) (svd ∷ patch ∷ []) old new = WritesTextFor (bytes_of source svd (Some patch)) old new
 WritesText (Generating source) _ old new = ⊥

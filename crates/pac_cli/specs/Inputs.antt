@@ -2,7 +2,7 @@
 use Rattle.std.specs.Prelude.{ℕ, List, [], ◌∷◌, ◌++◌, Option, Some, None}
 use Rattle.pac_cli.specs.Resolving.{longest}
 use Rattle.pac_words.specs.declared.command.Command.{Command}
-use Rattle.pac_words.specs.declared.command.Command.TheVariants.{Executing, Generating, Listing, Running}
+use Rattle.pac_words.specs.declared.command.Command.TheVariants.{Executing, Generating, Listing, Running, Sampling}
 use Rattle.pac_words.specs.declared.command.Run.{Run}
 use Rattle.pac_words.specs.declared.command.Source.{Source}
 use Rattle.pac_inputs.specs.declared.gathering.Wanted.{Wanted}
@@ -38,6 +38,7 @@ files_of (Listing source) = source_files source
 files_of (Generating source) = source_files source
 files_of (Executing krate run) = execution_files krate run
 files_of (Running source run) = run_files source run
+files_of (Sampling number count) = []
 
 -- those of no command are none
 abbrev pub wanted_by : Option Command → List Wanted

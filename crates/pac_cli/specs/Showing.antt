@@ -14,9 +14,9 @@ use Rattle.svd_reader.specs.declared.fault.SvdFault.{SvdFault}
 use Rattle.svd_reader.specs.declared.fault.SvdFault.TheVariants as svd
 use Rattle.pac_fault.specs.declared.fault.PacFault.{PacFault}
 use Rattle.pac_fault.specs.declared.fault.PacFault.TheVariants.{Words, Svd, Block, Command, Patch, Derive, Dim, Check, CrateText, Script, Limit}
-use Rattle.pac_fault.specs.declared.fault.WordsFault.TheVariants.{Clap, NoBus}
+use Rattle.pac_fault.specs.declared.fault.WordsFault.TheVariants.{BadNumber, Clap, NoBus}
 use Rattle.pac_fault.specs.declared.fault.LimitFault.TheVariants.{FileTooLong, ScriptTooLong, TooMany}
-use Rattle.pac_cli.specs.Answers.{Cause, no_command, no_bus, file_too_long, unresolved, no_crate_text, no_script}
+use Rattle.pac_cli.specs.Answers.{Cause, no_command, bad_number, no_bus, file_too_long, unresolved, no_crate_text, no_script}
 use Rattle.pac_cli.specs.Resolving.{Unresolved, no_description, nests_too_deep, misdescribed, misspelled_patch, misformed_patch, unpatched, too_many, underived, misdimensioned, fails_check}
 use Rattle.pac_cli.specs.Scripts.{Untyped, no_crate, modules_too_deep, misfits, Unscripted, no_statement, too_many_statements, mistyped}
 
@@ -48,6 +48,7 @@ ShowsUnscripted (mistyped found) fault = (shown : ScriptTyping) × (script_kind 
 -- the cause shows in the fault
 abbrev pub Shows : Cause → PacFault → Type 0
 Shows no_command fault = fault ≡ Words Clap
+Shows bad_number fault = fault ≡ Words BadNumber
 Shows (no_bus kind) fault = fault ≡ Words (NoBus kind)
 Shows (file_too_long name limit) fault = fault ≡ Limit (FileTooLong name limit)
 Shows (unresolved why) fault = ShowsUnresolved why fault

@@ -1,5 +1,5 @@
 -- What each stage of a command answers: its value, or a fault by its class. No stage speaks of one command alone.
-use Rattle.std.specs.Prelude.{ℕ, ◌≡◌, ◌⊎◌, List, [], ◌∷◌, ◌++◌, length, map, Option, Some, None, Result, Ok, Err}
+use Rattle.std.specs.Prelude.{ℕ, ◌≡◌, ◌⊎◌, Bool, true, false, List, [], ◌∷◌, ◌++◌, length, map, Option, Some, None, Result, Ok, Err}
 use Rattle.std.specs.Io.KnownBytes.{Appends}
 use Rattle.frag_eval.specs.Prefixes.{IsAccess, acts_of, reads_in}
 use Rattle.frag_eval.specs.Preparing.{set_by_all}
@@ -24,7 +24,7 @@ use Rattle.pac_words.specs.declared.command.Command.{Command}
 use Rattle.pac_fault.specs.Classes.{Class, no_memory, bad_words, bad_write, bad_bus, bad_input, class_of}
 use Rattle.pac_fault.specs.declared.fault.PacFault.{PacFault}
 use Rattle.pac_fault.specs.declared.fault.PacFault.TheVariants.{Memory, Words, Block, Command as BadCommand}
-use Rattle.pac_fault.specs.declared.fault.WordsFault.TheVariants.{Clap, NoBus}
+use Rattle.pac_fault.specs.declared.fault.WordsFault.TheVariants.{BadNumber, Clap, NoBus}
 use Rattle.pac_cli.specs.Answers.{Cause, Plan, Answer, refused, does}
 use Rattle.pac_cli.specs.Resolving.{Unresolved, Resolution, stopped, resolved, SourceBytes, ComeTo, IsPatch, by_patching}
 use Rattle.patch_model.specs.Acts.{order_of}
@@ -45,6 +45,11 @@ AsksNot _ words fault = ⊥
 abbrev pub AsksFor : List (List ℕ) → Result Command PacFault → Type 0
 AsksFor words (Ok command) = command_of words ≡ Some command
 AsksFor words (Err fault) = AsksNot (class_of fault) words fault
+
+-- the command has its numbers, or this fault says that it hasn't
+abbrev pub Numbers : {T : Type 0} → Bool → Result T PacFault → Type 0
+Numbers has (Ok value) = has ≡ true
+Numbers has (Err fault) = (has ≡ false) × (fault ≡ Words BadNumber)
 
 -- ---- a description
 
@@ -210,7 +215,7 @@ pub record HasBrokenOff (decides : Answer → Type 0) (old new : Desk) : Type 0 
   pub rose : Rose old.paper.faults new.paper.faults
   pub output : HasWrittenPart MakesSome decides old new
 
--- the bus failed behind so many events, and their text was written
+-- the bus failed behind so many events, and what is left of them then was written
 pub record BusBrokeOff (decides : Answer → Type 0) (done : ℕ) (old new : Desk) : Type 0 where
   pub count : new.paper.faults ≡ old.paper.faults
   pub plan : Plan
@@ -218,7 +223,7 @@ pub record BusBrokeOff (decides : Answer → Type 0) (done : ℕ) (old new : Des
   pub events : List Event
   pub makes : MakesFirst plan events old.bus new.bus
   pub counted : done ≡ length events
-  pub whole : Appends old.paper.written new.paper.written (plan.text events)
+  pub whole : Appends old.paper.written new.paper.written (plan.left events)
 
 -- the inputs are refused, for a cause that the fault shows
 pub record IsRefused (decides : Answer → Type 0) (old new : Desk) (fault : PacFault) : Type 0 where

@@ -20,6 +20,7 @@ pub(crate) fn files_of(alloc: Global, command: &Command) -> Result<Vec<Wanted>, 
         Command::Listing { source } | Command::Generating { source } => source_files(alloc, source),
         Command::Executing { krate, run } => execution_files(alloc, krate, run),
         Command::Running { source, run } => run_files(alloc, source, run),
+        Command::Sampling { .. } => Ok(Vec::new(alloc)),
     }
 }
 

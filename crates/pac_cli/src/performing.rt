@@ -1,5 +1,5 @@
-ghost use Rattle.std.specs.Prelude.{◌≡◌, IfOk, None};
-ghost use Rattle.pac_cli.specs.Answers.{Decides};
+ghost use Rattle.std.specs.Prelude.{◌≡◌, IfOk, None, true};
+ghost use Rattle.pac_cli.specs.Answers.{Decides, has_numbers};
 ghost use Rattle.pac_cli.specs.Buses.{OthersStay, bus_of, kinds_of, lent_for, missing_kind, slots_of};
 ghost use Rattle.pac_cli.specs.Headline.{WritesText};
 ghost use Rattle.pac_inputs.specs.Gathering.{FitLimits};
@@ -10,17 +10,19 @@ ghost use Rattle.pac_cli.specs.Worlds.{desk, paper};
 use crate::executing::execute;
 use crate::generating::generate;
 use crate::listing::list;
+use crate::numbers::numbers_of;
 use crate::running::run_against;
+use crate::sampling::sample;
 use crate::slot::{BusSlot, place_of};
 use crate::source::described;
 use pac_bus::Bus;
 use pac_fault::PacFault;
 use pac_io::{Bytes, Sink};
-use pac_words::Command;
+use pac_words::{BusKind, Command};
 use std::alloc::Global;
 
 /// Does what a command asks for, with the bytes of its files and the lent buses. The one that it runs its
-/// script over has to be among them.
+/// script over has to be among them, and `sample` has to have its numbers.
 pub(crate) fn perform<S: Sink, B: Bus>(
     alloc: Global,
     command: &Command,
@@ -29,6 +31,7 @@ pub(crate) fn perform<S: Sink, B: Bus>(
     buses: &mut Vec<BusSlot<B>>,
 ) -> Result<(), PacFault>
     requires limits { FitLimits (files_of command.now) inputs.now }
+    requires numbers { has_numbers command.now ≡ true }
     requires lent { missing_kind (bus_of command.now) (kinds_of (slots_of B.told buses.old.items)) ≡ None }
     ensures does { Does (Decides command.now inputs.now)
         (desk (paper (S.written out.old) (S.faults out.old)) (lent_for (bus_of command.now) (slots_of B.told buses.old.items)))
@@ -50,6 +53,14 @@ pub(crate) fn perform<S: Sink, B: Bus>(
             let place = place_of(buses.as_slice(), run.bus);
             let bus = &mut buses[place].bus;
             run_against(alloc, source, script.as_slice(), bus, out)
+        }
+        (Command::Sampling { number, count }, _) => {
+            let Some((number, count)) = numbers_of(number, count) else {
+                unreachable!()
+            };
+            let place = place_of(buses.as_slice(), BusKind::Memory);
+            let bus = &mut buses[place].bus;
+            sample(alloc, number, count, bus, out)
         }
         (Command::Executing { .. }, _) => unreachable!(),
         (Command::Running { .. }, _) => unreachable!(),

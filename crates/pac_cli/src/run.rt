@@ -11,6 +11,7 @@ ghost use Rattle.pac_inputs.specs.Shelves.{shelf};
 ghost use Rattle.pac_fault.specs.Statuses.{status_of};
 
 use crate::inputs::files_of;
+use crate::numbers::check_numbers;
 use crate::outcome::Outcome;
 use crate::performing::perform;
 use crate::slot::{BusSlot, find_bus};
@@ -25,8 +26,8 @@ use std::alloc::Global;
 
 /// Does what the words ask for: reads the files that they name, runs a script over the first of the lent
 /// buses that is of the kind they choose, writes the output to `out`, and one line to `err` where there is
-/// a fault. The fault is the first in the order of the stages: the words, the bus, the files, the
-/// description, the crate text, the script, the run, the writing.
+/// a fault. The fault is the first in the order of the stages: the words, the numbers, the bus, the
+/// files, the description, the crate text, the script, the run, the writing.
 pub fn run_pac<F: Files, S: Sink, E: Sink, B: Bus>(
     alloc: Global,
     words: &[Text],
@@ -79,6 +80,7 @@ fn answer<F: Files, S: Sink, B: Bus>(
     ensures headline { IfOk result (λ _. WordsHaveText (command_of words.now) (F.told files.old) (S.written out.old) (S.written out.new)) }
 {
     let command = asked_for(alloc, words)?;
+    check_numbers(&command)?;
     find_bus(&command, buses.as_slice())?;
     let wanted = files_of(alloc, &command)?;
     let inputs = gather(alloc, wanted, files)?;

@@ -40,7 +40,7 @@ pub(crate) fn run_against<B: Bus, S: Sink>(
 }
 
 /// The crate of a checked description, which fits.
-fn emitted(alloc: Global, state: &Checked) -> Result<TypedCrate, PacFault>
+pub(crate) fn emitted(alloc: Global, state: &Checked) -> Result<TypedCrate, PacFault>
     ensures stands { IfOk result (λ krate. StandsFor state.now (crate_tree krate)) }
     ensures memory { IfErr result (λ fault. fault ≡ Memory) }
 {

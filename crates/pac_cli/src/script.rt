@@ -45,7 +45,11 @@ pub(crate) fn run_script<B: Bus, S: Sink>(
 }
 
 /// The script that a text spells, where it fits the crate.
-fn script_for(alloc: Global, krate: &TypedCrate, text: &[u8]) -> Result<TypedScript, PacFault>
+pub(crate) fn script_for(
+    alloc: Global,
+    krate: &TypedCrate,
+    text: &[u8],
+) -> Result<TypedScript, PacFault>
     requires { length text.now ≤ 67_108_864 }
     ensures { ScriptsFor (text_surface (crate_tree krate.now)) text.now result }
 {

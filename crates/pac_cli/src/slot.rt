@@ -24,6 +24,7 @@ fn bus_of(command: &Command) -> Option<BusKind>
         Command::Generating { .. } => None,
         Command::Executing { run, .. } => Some(run.bus),
         Command::Running { run, .. } => Some(run.bus),
+        Command::Sampling { .. } => Some(BusKind::Memory),
     }
 }
 

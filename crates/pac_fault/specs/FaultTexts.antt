@@ -24,7 +24,7 @@ use Rattle.pac_fault.specs.FragmentTexts.{crate_text, script_text, statements_te
 use Rattle.pac_fault.specs.declared.fault.PacFault.{PacFault}
 use Rattle.pac_fault.specs.declared.fault.PacFault.TheVariants.{Memory, Words, Read, Write, Bus, Svd, Block, Command, Patch, Derive, Dim, Check, CrateText, Script, Limit}
 use Rattle.pac_fault.specs.declared.fault.WordsFault.{WordsFault}
-use Rattle.pac_fault.specs.declared.fault.WordsFault.TheVariants.{Clap, NoBus}
+use Rattle.pac_fault.specs.declared.fault.WordsFault.TheVariants.{BadNumber, Clap, NoBus}
 use Rattle.pac_fault.specs.declared.fault.LimitFault.{LimitFault}
 use Rattle.pac_fault.specs.declared.fault.LimitFault.TheVariants.{FileTooLong, ScriptTooLong, TooMany}
 
@@ -35,6 +35,7 @@ kind_text bus.Device = codes "device"
 
 unfoldable pub words_text : WordsFault → List ℕ
 words_text Clap = codes "usage: pac list SVD, generate SVD, exec CRATE SCRIPT, run SVD SCRIPT or sample NUMBER COUNT, with --patch P, --strict, --bus zero or memory"
+words_text BadNumber = codes "bad number"
 words_text (NoBus kind) = codes "no bus of kind " ++ kind_text kind
 
 -- ---- paths

@@ -73,6 +73,9 @@ pub enum WordsFault {
     /// They aren't those of a command.
     #[error("the words are those of no command")]
     Clap,
+    /// Those of `sample` give no number, or no count that it takes.
+    #[error("bad number")]
+    BadNumber,
     /// The bus that they choose isn't lent.
     #[error("a bus is not there")]
     NoBus {

@@ -88,6 +88,7 @@ fn push_words(page: &mut Page, fault: &WordsFault) -> Result<(), NoMemory>
         WordsFault::Clap => page.push(
             b"usage: pac list SVD, generate SVD, exec CRATE SCRIPT, run SVD SCRIPT or sample NUMBER COUNT, with --patch P, --strict, --bus zero or memory",
         ),
+        WordsFault::BadNumber => page.push(b"bad number"),
         WordsFault::NoBus { kind } => push_pair(page, b"no bus of kind ", kind_text(*kind)),
     }
 }

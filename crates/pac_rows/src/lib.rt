@@ -21,6 +21,8 @@ mod ran;
 #[cfg(test)]
 mod registers;
 #[cfg(test)]
+mod sampled;
+#[cfg(test)]
 mod strict;
 #[cfg(test)]
 mod surroundings;

@@ -1,3 +1,4 @@
 pub mod Readings
 pub mod Numbered
 pub mod Registers
+pub mod Lengths

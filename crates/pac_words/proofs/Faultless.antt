@@ -13,9 +13,9 @@ use Rattle.clap.specs.Walk.{Names, answers_to, finished, nothing_held, rows_afte
 use Rattle.clap.specs.Simple.{built, entered, label_of, names_of, rows_at}
 use Rattle.pac_words.proofs.Filled.{HavePlaces, given_value, rows_after_full}
 use Rattle.pac_words.specs.Table.{table}
-use Rattle.pac_words.specs.Commands.{NamesBus, bus_of, chosen, command_of, executing, generating, is_set, listing, run_of, running, runs_script, source_of, without_fault, told}
+use Rattle.pac_words.specs.Commands.{NamesBus, bus_of, chosen, command_of, executing, generating, is_set, listing, run_of, running, runs_script, sampling, source_of, without_fault, told}
 use Rattle.pac_words.specs.declared.command.BusKind.{BusKind}
-use Rattle.pac_words.specs.declared.command.Command.TheVariants.{Executing, Running}
+use Rattle.pac_words.specs.declared.command.Command.TheVariants.{Executing, Running, Sampling}
 use Rattle.pac_words.specs.declared.command.Run.{Run}
 use Rattle.pac_words.specs.declared.command.Source.{Source}
 
@@ -156,6 +156,17 @@ run_tells s words name svd_place svd_demanded script_place script_demanded stric
     (bound (λ (source : Source). option_map (λ (of : Run). Running source of) (run_of rows)) (source_of rows)
     (λ source. mapped (λ (of : Run). Running source of) (run_of rows) run) source)
 
+-- and `sample` with its two words
+sample_tells : (s : Shape) (words : List Text) → s.name ≡ codes "sample" → HavePlaces (codes "number") s.rules → IsDemanded (codes "number") s.rules
+    → HavePlaces (codes "count") s.rules → IsDemanded (codes "count") s.rules → s.subcommand_negates_reqs ≡ false
+    → level_fault s [] nothing_held words false [] ≡ [] → IsSome (told s.name (rows_after s.rules [] words))
+sample_tells s words name number_place number_demanded count_place count_demanded strict none =
+    let rows = rows_after s.rules [] words in
+    subst (λ (n : Text). IsSome (told n rows)) (sym name)
+    (bound (λ (number : Text). option_map (λ (count : Text). Sampling number count) (first_of (codes "count") rows)) (first_of (codes "number") rows)
+    (λ number. mapped (λ (count : Text). Sampling number count) (first_of (codes "count") rows) (leaf_value s (codes "count") words count_place count_demanded strict none))
+    (leaf_value s (codes "number") words number_place number_demanded strict none))
+
 each_tells : Each Tells (built table).subs
 each_tells = (
   (λ words none named. mapped _ _ (mapped _ _ (leaf_value _ (codes "svd") words refl refl refl none))),
@@ -163,7 +174,10 @@ each_tells = (
     (λ words none named. mapped _ _ (mapped _ _ (leaf_value _ (codes "svd") words refl refl refl none))),
     (
       (λ words none named. exec_tells _ words refl refl refl refl refl refl none named),
-      ((λ words none named. run_tells _ words refl refl refl refl refl refl none named), tt),
+      (
+        (λ words none named. run_tells _ words refl refl refl refl refl refl none named),
+        ((λ words none named. sample_tells _ words refl refl refl refl refl refl none), tt),
+      ),
     ),
   ),
 )
@@ -237,21 +251,21 @@ told_named name rows some = at_list (bytes_eq name (codes "list")) refl some
     neither : (one other : Bool) → one ≡ false → other ≡ false → (not (one || other) || is_some (bus_of rows)) ≡ true
     neither one other first second = ap₂ (λ a b. not (a || b) || is_some (bus_of rows)) first second
 
-    at_run : (b : Bool) → bytes_eq name (codes "exec") ≡ false → bytes_eq name (codes "run") ≡ b → IsSome (if b then running rows else None) → Named name rows
+    at_run : (b : Bool) → bytes_eq name (codes "exec") ≡ false → bytes_eq name (codes "run") ≡ b → IsSome (if b then running rows else (if bytes_eq name (codes "sample") then sampling rows else None)) → Named name rows
     at_run true before is some = has_bus (running_named rows (source_of rows) (run_of rows) refl some)
     at_run false before is some = neither (bytes_eq name (codes "exec")) (bytes_eq name (codes "run")) before is
 
-    at_exec : (b : Bool) → bytes_eq name (codes "exec") ≡ b → IsSome (if b then executing rows else (if bytes_eq name (codes "run") then running rows else None)) → Named name rows
+    at_exec : (b : Bool) → bytes_eq name (codes "exec") ≡ b → IsSome (if b then executing rows else (if bytes_eq name (codes "run") then running rows else (if bytes_eq name (codes "sample") then sampling rows else None))) → Named name rows
     at_exec true is some = has_bus (executing_named rows (first_of (codes "crate") rows) (run_of rows) refl some)
     at_exec false is some = at_run (bytes_eq name (codes "run")) is refl some
 
     at_generate : (b : Bool) → bytes_eq name (codes "generate") ≡ b
-        → IsSome (if b then generating rows else (if bytes_eq name (codes "exec") then executing rows else (if bytes_eq name (codes "run") then running rows else None))) → Named name rows
+        → IsSome (if b then generating rows else (if bytes_eq name (codes "exec") then executing rows else (if bytes_eq name (codes "run") then running rows else (if bytes_eq name (codes "sample") then sampling rows else None)))) → Named name rows
     at_generate true is some = same (codes "generate") is refl
     at_generate false is some = at_exec (bytes_eq name (codes "exec")) refl some
 
     at_list : (b : Bool) → bytes_eq name (codes "list") ≡ b
-        → IsSome (if b then listing rows else (if bytes_eq name (codes "generate") then generating rows else (if bytes_eq name (codes "exec") then executing rows else (if bytes_eq name (codes "run") then running rows else None)))) → Named name rows
+        → IsSome (if b then listing rows else (if bytes_eq name (codes "generate") then generating rows else (if bytes_eq name (codes "exec") then executing rows else (if bytes_eq name (codes "run") then running rows else (if bytes_eq name (codes "sample") then sampling rows else None))))) → Named name rows
     at_list true is some = same (codes "list") is refl
     at_list false is some = at_generate (bytes_eq name (codes "generate")) refl some
 

@@ -3,7 +3,7 @@ use Rattle.std.proofs.Common.{◌≡◌, refl, Option, Some, None, List, [], ◌
 use Rattle.clap.proofs.OnLiterals.{clap_on_literals}
 use Rattle.pac_words.specs.Commands.{command_of}
 use Rattle.pac_words.specs.declared.command.Command.{Command}
-use Rattle.pac_words.specs.declared.command.Command.TheVariants.{Executing, Generating, Listing, Running}
+use Rattle.pac_words.specs.declared.command.Command.TheVariants.{Executing, Generating, Listing, Running, Sampling}
 use Rattle.pac_words.specs.declared.command.BusKind.{BusKind}
 use Rattle.pac_words.specs.declared.command.BusKind.TheVariants.{Zero, Memory}
 
@@ -176,7 +176,25 @@ run_without_script : command_of (codes "run" ∷ codes "x.svd" ∷ []) ≡ None
 unfolding clap_on_literals command_of
 run_without_script = refl
 
--- a command that isn't built is none
-not_built : command_of (codes "sample" ∷ codes "0" ∷ codes "1" ∷ []) ≡ None
+-- ---- `sample`
+
+sampled : command_of (codes "sample" ∷ codes "5" ∷ codes "2" ∷ []) ≡ Some (Sampling (codes "5") (codes "2"))
 unfolding clap_on_literals command_of
-not_built = refl
+sampled = refl
+
+-- its words are read as numbers later
+no_numbers : command_of (codes "sample" ∷ codes "x" ∷ codes "0" ∷ []) ≡ Some (Sampling (codes "x") (codes "0"))
+unfolding clap_on_literals command_of
+no_numbers = refl
+
+sample_without_count : command_of (codes "sample" ∷ codes "5" ∷ []) ≡ None
+unfolding clap_on_literals command_of
+sample_without_count = refl
+
+sample_with_a_bus : command_of (codes "sample" ∷ codes "5" ∷ codes "2" ∷ codes "--bus=zero" ∷ []) ≡ None
+unfolding clap_on_literals command_of
+sample_with_a_bus = refl
+
+no_command : command_of (codes "simple" ∷ codes "0" ∷ codes "1" ∷ []) ≡ None
+unfolding clap_on_literals command_of
+no_command = refl

@@ -5,7 +5,7 @@ use Rattle.std.specs.Str.{bytes_eq}
 use Rattle.clap.specs.Words.{Kinds, Row, Text, fault_of, first_of, subcommand_of}
 use Rattle.pac_words.specs.Table.{table}
 use Rattle.pac_words.specs.declared.command.Command.{Command}
-use Rattle.pac_words.specs.declared.command.Command.TheVariants.{Executing, Generating, Listing, Running}
+use Rattle.pac_words.specs.declared.command.Command.TheVariants.{Executing, Generating, Listing, Running, Sampling}
 use Rattle.pac_words.specs.declared.command.BusKind.{BusKind}
 use Rattle.pac_words.specs.declared.command.BusKind.TheVariants.{Zero, Memory}
 use Rattle.pac_words.specs.declared.command.Run.{Run}
@@ -47,9 +47,12 @@ executing rows = option_and_then (λ krate. option_map (λ run. Executing krate 
 abbrev pub running : List Row → Option Command
 running rows = option_and_then (λ source. option_map (λ run. Running source run) (run_of rows)) (source_of rows)
 
+abbrev pub sampling : List Row → Option Command
+sampling rows = option_and_then (λ number. option_map (λ count. Sampling number count) (first_of (codes "count") rows)) (first_of (codes "number") rows)
+
 -- the command of this name, by what was found for its arguments
 abbrev pub told : Text → List Row → Option Command
-told name rows = if bytes_eq name (codes "list") then listing rows else (if bytes_eq name (codes "generate") then generating rows else (if bytes_eq name (codes "exec") then executing rows else (if bytes_eq name (codes "run") then running rows else None)))
+told name rows = if bytes_eq name (codes "list") then listing rows else (if bytes_eq name (codes "generate") then generating rows else (if bytes_eq name (codes "exec") then executing rows else (if bytes_eq name (codes "run") then running rows else (if bytes_eq name (codes "sample") then sampling rows else None))))
 
 -- the command of the subcommand that was met
 abbrev pub chosen : Option (Text × List Row) → Option Command

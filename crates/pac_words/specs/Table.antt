@@ -4,7 +4,7 @@ use Rattle.clap.specs.Words.{App, Rule, Shape, Text, new_rule}
 use Rattle.clap.specs.Simple.{new_shape}
 use Rattle.clap.specs.declared.builder.action.ArgAction.TheVariants.{SetTrue}
 
--- a file, which has to be named
+-- a word that has to be given: a file, or a number
 abbrev pub file : Text → Rule
 file id = record (new_rule id) { required = true }
 
@@ -40,6 +40,9 @@ exec = command (codes "exec") (file (codes "crate") ∷ file (codes "script") �
 abbrev pub run : Shape
 run = command (codes "run") (source ++ file (codes "script") ∷ option (codes "bus") ∷ [])
 
+abbrev pub sample : Shape
+sample = command (codes "sample") (file (codes "number") ∷ file (codes "count") ∷ [])
+
 -- one of these commands has to be chosen, and no word asks for help
 abbrev pub commands : List Shape → App
 commands subs = record {
@@ -57,9 +60,9 @@ commands subs = record {
 abbrev pub printing : List Shape
 printing = list ∷ generate ∷ []
 
--- the commands that run a script
-abbrev pub running : List Shape
-running = exec ∷ run ∷ []
+-- these and the commands that run a script
+abbrev pub scripted : List Shape
+scripted = printing ++ exec ∷ run ∷ []
 
 abbrev pub table : App
-table = commands (printing ++ running)
+table = commands (scripted ++ sample ∷ [])

@@ -1,6 +1,6 @@
 ghost use Rattle.std.specs.Prelude.{◌≡◌, IfOk, map};
 ghost use Rattle.clap.specs.Words.{first_of, found_of, rows_of};
-ghost use Rattle.pac_words.specs.Commands.{bus_of, command_of, executing, generating, is_set, kind_of, listing, run_of, running, source_of, told};
+ghost use Rattle.pac_words.specs.Commands.{bus_of, command_of, executing, generating, is_set, kind_of, listing, run_of, running, sampling, source_of, told};
 
 use crate::table::table;
 use clap::ArgMatches;
@@ -34,6 +34,13 @@ pub enum Command {
         source: Source,
         /// The script, and over which bus it runs.
         run: Run,
+    },
+    /// `sample NUMBER COUNT`: what modifying each register of a made description comes to, over memory.
+    Sampling {
+        /// The word for the number that the reset values begin with.
+        number: Text,
+        /// The word for how many registers there are.
+        count: Text,
     },
 }
 
@@ -110,6 +117,7 @@ fn told(alloc: Global, name: &str, matches: &ArgMatches<'_>) -> Result<Option<Co
         "generate" => generating(alloc, matches),
         "exec" => executing(alloc, matches),
         "run" => running(alloc, matches),
+        "sample" => sampling(alloc, matches),
         _ => Ok(None),
     }
 }
@@ -152,6 +160,18 @@ fn running(alloc: Global, matches: &ArgMatches<'_>) -> Result<Option<Command>, N
     };
     match run_of(alloc, matches)? {
         Some(run) => Ok(Some(Command::Running { source, run })),
+        None => Ok(None),
+    }
+}
+
+fn sampling(alloc: Global, matches: &ArgMatches<'_>) -> Result<Option<Command>, NoMemory>
+    ensures { IfOk result (λ command. command ≡ sampling (rows_of (found_of matches.now))) }
+{
+    let Some(number) = value(alloc, matches, "number")? else {
+        return Ok(None);
+    };
+    match value(alloc, matches, "count")? {
+        Some(count) => Ok(Some(Command::Sampling { number, count })),
         None => Ok(None),
     }
 }

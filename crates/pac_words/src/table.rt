@@ -1,12 +1,12 @@
 ghost use Rattle.std.specs.Prelude.{◌≡◌, IfOk, false};
 ghost use Rattle.clap.specs.Words.{app_of, rule_of, shape_of};
 ghost use Rattle.clap.specs.declared.builder.command.Command.TheViews.{out-Command as fields_of};
-ghost use Rattle.pac_words.specs.Table.{commands, described, exec, file, flag, generate, list, option, printing, run, table};
+ghost use Rattle.pac_words.specs.Table.{commands, described, exec, file, flag, generate, list, option, printing, run, sample, scripted, table};
 
 use clap::{Arg, ArgAction, Command};
 use std::alloc::{AllocError, Global};
 
-/// A file, which has to be named.
+/// A word that has to be given: a file, or a number.
 fn file<'a>(alloc: Global, id: &'a str) -> Arg<'a>
     ensures rule { rule_of result ≡ file id.entry.now }
     ensures local { result.global ≡ false }
@@ -69,6 +69,14 @@ fn run<'a>(alloc: Global) -> Result<Command<'a>, AllocError>
         .arg(option(alloc, "bus"))
 }
 
+fn sample<'a>(alloc: Global) -> Result<Command<'a>, AllocError>
+    ensures { IfOk result (λ command. (shape_of command ≡ sample) × ((fields_of command).has_globals ≡ false)) }
+{
+    Command::new(alloc, "sample")
+        .arg(file(alloc, "number"))?
+        .arg(file(alloc, "count"))
+}
+
 /// The commands that print a description.
 fn printing<'a>(alloc: Global) -> Result<Command<'a>, AllocError>
     ensures { IfOk result (λ command. app_of command ≡ commands printing) }
@@ -82,11 +90,18 @@ fn printing<'a>(alloc: Global) -> Result<Command<'a>, AllocError>
         .subcommand(generate(alloc)?)
 }
 
-/// The commands that are built. One has to be chosen, and no word asks for help.
-pub(crate) fn table<'a>(alloc: Global) -> Result<Command<'a>, AllocError>
-    ensures { IfOk result (λ command. app_of command ≡ table) }
+/// These and the commands that run a script.
+fn scripted<'a>(alloc: Global) -> Result<Command<'a>, AllocError>
+    ensures { IfOk result (λ command. app_of command ≡ commands scripted) }
 {
     printing(alloc)?
         .subcommand(exec(alloc)?)?
         .subcommand(run(alloc)?)
+}
+
+/// The commands that are built. One has to be chosen, and no word asks for help.
+pub(crate) fn table<'a>(alloc: Global) -> Result<Command<'a>, AllocError>
+    ensures { IfOk result (λ command. app_of command ≡ table) }
+{
+    scripted(alloc)?.subcommand(sample(alloc)?)
 }

@@ -5,6 +5,8 @@ use Rattle.pac_cli.specs.Resolving.{bytes_in}
 use Rattle.pac_cli.proofs.Sources.{has_generated, last_input}
 use Rattle.pac_cli.proofs.Scripts.{executed, has_run, others_executed, others_run, two_inputs}
 use Rattle.pac_cli.proofs.Slots.{others_stay, told_after, told_before}
+use Rattle.pac_cli.proofs.Samples.{no_inputs, others_sampled, sampled}
+use Rattle.pac_words.specs.declared.command.BusKind.TheVariants as bus
 use Rattle.pac_words.specs.declared.command.Command.{Command}
 use Rattle.pac_cli.proofs.performing.perform.Goals as goal
 
@@ -76,3 +78,31 @@ returns-in-Running-len1-up-clause-others g c =
     let not_missing = subst (λ (command : Command). missing_kind (bus_of command) (kinds_of (slots_of told lent)) ≡ None) c.in-Running-len1-up.is-0 there in
     others_run c.args.command.now c.in-Running-len1-up.source c.in-Running-len1-up.run' _ _ c.in-Running-len1-up.is-0
     (others_stay told kind lent slot c.run_against.new.bus c.place_of-place-in-Running-len1-up.result is_place not_missing c.index_mut-in-Running-len1-up.ensures.value)
+
+pub returns-in-Some-clause-does : goal.returns-in-Some-clause-does
+returns-in-Some-clause-does g c =
+    let told = g.B.Bus.told in
+    let lent = c.args.buses.now.items in
+    let slot = c.index_mut-in-Sampling-default.result.now in
+    let is_place = c.place_of-place-in-Sampling-default.ensures ∙ ap (λ (all : List _). place_in bus.Memory (kinds_of (slots_of told all))) c.as_slice-in-Sampling-default.ensures.value in
+    let there : missing_kind (bus_of c.args.command.now) (kinds_of (slots_of told lent)) ≡ None = c.requires.lent in
+    let not_missing = subst (λ (command : Command). missing_kind (bus_of command) (kinds_of (slots_of told lent)) ≡ None) c.in-Sampling-default.is-0 there in
+    sampled c.args.command.now c.in-Sampling-default.number c.in-Sampling-default.count c.args.inputs.now (c.in-Some.number, c.in-Some.count)
+    (paper (g.S.Sink.written c.args.out.now) (g.S.Sink.faults c.args.out.now)) (paper (g.S.Sink.written c.sample.new.out) (g.S.Sink.faults c.sample.new.out))
+    (slots_of told lent) _ (told slot.bus) (told c.sample.new.bus) c.sample.result c.in-Sampling-default.is-0
+    (no_inputs c.args.command.now c.in-Sampling-default.number c.in-Sampling-default.count c.args.inputs.now c.in-Sampling-default.is-0 c.requires.limits)
+    (sym c.numbers_of.ensures.given ∙ c.in-Some.is)
+    (told_before told bus.Memory lent slot c.sample.new.bus c.place_of-place-in-Sampling-default.result is_place not_missing c.index_mut-in-Sampling-default.ensures.value)
+    (told_after told bus.Memory lent slot c.sample.new.bus c.place_of-place-in-Sampling-default.result is_place not_missing c.index_mut-in-Sampling-default.ensures.value)
+    c.sample.ensures
+
+pub returns-in-Some-clause-others : goal.returns-in-Some-clause-others
+returns-in-Some-clause-others g c =
+    let told = g.B.Bus.told in
+    let lent = c.args.buses.now.items in
+    let slot = c.index_mut-in-Sampling-default.result.now in
+    let is_place = c.place_of-place-in-Sampling-default.ensures ∙ ap (λ (all : List _). place_in bus.Memory (kinds_of (slots_of told all))) c.as_slice-in-Sampling-default.ensures.value in
+    let there : missing_kind (bus_of c.args.command.now) (kinds_of (slots_of told lent)) ≡ None = c.requires.lent in
+    let not_missing = subst (λ (command : Command). missing_kind (bus_of command) (kinds_of (slots_of told lent)) ≡ None) c.in-Sampling-default.is-0 there in
+    others_sampled c.args.command.now c.in-Sampling-default.number c.in-Sampling-default.count _ _ c.in-Sampling-default.is-0
+    (others_stay told bus.Memory lent slot c.sample.new.bus c.place_of-place-in-Sampling-default.result is_place not_missing c.index_mut-in-Sampling-default.ensures.value)
