@@ -79,6 +79,21 @@ for ((n = 0; n < 1000; n++)); do echo "T.r$n().write(|w| w.bits($n));"; done >"$
 for ((n = 0; n < 1000; n++)); do printf 'write 0x%08x 32 0x%08x\n' $((4 * n)) "$n"; done >"$folder/many.events"
 prints "$folder/many.events" 'run of a thousand registers' run "$folder/many.svd" "$folder/many.script"
 
+# The largest sample, each time alike: its words are worked out beside it, A by its kind and B as 1.
+awk 'BEGIN {
+    for (j = 0; j < 65536; j++) {
+        reset = 40503 * j % 4294967296
+        a = reset % 256
+        b = int(reset / 256) % 2 ^ (2 + j % 7)
+        sum += reset + (j % 3 == 0 ? 0 : j % 3 == 1 ? -a : 255 - a) + 256 * (1 - b)
+    }
+    printf "registers 65536\nreads 65536\nwrites 65536\nsum %.0f\n", sum
+}' >"$folder/sum"
+for _ in 1 2; do
+    "$program" sample 0 65536 >"$folder/out" 2>"$folder/err" || fail "sample 0 65536: $(cat "$folder/err")"
+    diff "$folder/sum" "$folder/out" >&2 || fail 'sample 0 65536: another sum'
+done
+
 # fails STATUS LINE WHAT: the last run's status and line, and that nothing went to standard output.
 fails() {
     [ "$status" -eq "$1" ] || fail "$3: status $status instead of $1"
