@@ -79,8 +79,21 @@ pub(crate) fn deeper(depth: usize) -> Result<usize, NoMemory>
     depth.checked_add(1).ok_or(NoMemory)
 }
 
+// The spaces of sixteen open braces.
+const SPACES: [u8; 64] = [b' '; 64];
+
 /// Appends four spaces for each open brace.
 pub(crate) fn push_indent(page: &mut Page, depth: usize) -> Result<(), NoMemory>
+    ensures { OnOk result (page.new ≡ page.old ++ spaces depth) }
+{
+    if depth > 16 {
+        return push_deep_indent(page, depth);
+    }
+    page.push(&SPACES[..4 * depth])
+}
+
+// The same where more braces are open.
+fn push_deep_indent(page: &mut Page, depth: usize) -> Result<(), NoMemory>
     ensures { OnOk result (page.new ≡ page.old ++ spaces depth) }
 {
     for level in 0..depth {
