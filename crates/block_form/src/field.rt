@@ -1,11 +1,10 @@
 ghost use Rattle.std.specs.Prelude.{◌≡◌, ◌≤◌, ◌<◌, ◌^◌, IfOk};
-ghost use Rattle.rust_names.specs.Identifiers.{IsIdentifier};
 ghost use Rattle.block_form.specs.Children.{array_fits, child_end, element_of, field_of, held};
 ghost use Rattle.block_form.specs.Gaps.{gap_field, gap_name};
 ghost use Rattle.block_form.specs.Fields.{becomes_field};
 
 use crate::child::{Array, Child, ChildKind};
-use frag_tree::{Element, FieldType, Identifier, IdentifierFault, StructField};
+use frag_tree::{Element, FieldType, Identifier, StructField};
 use itoa::Buffer;
 use pac_base::NoMemory;
 use std::alloc::Global;
@@ -89,17 +88,5 @@ fn gap_name(alloc: Global, number: u64) -> Result<Identifier, NoMemory>
     let mut buffer = Buffer::new();
     let mut bytes = Vec::from_slice(alloc, b"_reserved".as_slice())?;
     bytes.extend_from_slice(buffer.format(number).as_bytes())?;
-    identifier(alloc, bytes.as_slice())
-}
-
-/// The identifier that these bytes spell.
-fn identifier(alloc: Global, bytes: &[u8]) -> Result<Identifier, NoMemory>
-    requires { IsIdentifier bytes.now }
-    ensures { IfOk result (λ name. name ≡ bytes.now) }
-{
-    match Identifier::new(alloc, bytes) {
-        Ok(name) => Ok(name),
-        Err(IdentifierFault::Memory) => Err(NoMemory),
-        Err(IdentifierFault::NotAnIdentifier) => unreachable!(),
-    }
+    Identifier::known(alloc, bytes.as_slice())
 }

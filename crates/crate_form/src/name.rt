@@ -3,22 +3,10 @@ ghost use Rattle.crate_form.specs.Registers.{written_marker};
 ghost use Rattle.rust_names.specs.Identifiers.{IsIdentifier};
 ghost use Rattle.svd_values.specs.AccessorNames.{accessor_name, digit_guard, slot_name_of, without_array_mark};
 
-use frag_tree::{Identifier, IdentifierFault};
+use frag_tree::Identifier;
 use pac_base::{Name, NoMemory};
 use std::alloc::Global;
 use svd_values::{accessor, slot_name};
-
-/// The identifier that these bytes spell.
-pub(crate) fn identifier(alloc: Global, bytes: &[u8]) -> Result<Identifier, NoMemory>
-    requires { IsIdentifier bytes.now }
-    ensures { IfOk result (λ name. name ≡ bytes.now) }
-{
-    match Identifier::new(alloc, bytes) {
-        Ok(name) => Ok(name),
-        Err(IdentifierFault::Memory) => Err(NoMemory),
-        Err(IdentifierFault::NotAnIdentifier) => unreachable!(),
-    }
-}
 
 /// The accessor of an element of this written name.
 pub(crate) fn accessor_of(alloc: Global, name: &Name) -> Result<Identifier, NoMemory>
@@ -28,7 +16,7 @@ pub(crate) fn accessor_of(alloc: Global, name: &Name) -> Result<Identifier, NoMe
 {
     some_name(name);
     let made = accessor(alloc, name)?;
-    identifier(alloc, made.bytes())
+    Identifier::known(alloc, made.bytes())
 }
 
 /// The slot of a peripheral of this written name.
@@ -39,7 +27,7 @@ pub(crate) fn slot_of(alloc: Global, name: &Name) -> Result<Identifier, NoMemory
 {
     some_name(name);
     let made = slot_name(alloc, name)?;
-    identifier(alloc, made.bytes())
+    Identifier::known(alloc, made.bytes())
 }
 
 /// The marker of a field of this written name.
@@ -52,7 +40,7 @@ pub(crate) fn marker_of(alloc: Global, name: &Name) -> Result<Identifier, NoMemo
     let mut bytes = Vec::from_slice(alloc, digit_guard(plain))?;
     bytes.extend_from_slice(plain)?;
     bytes.extend_from_slice(b"_F")?;
-    identifier(alloc, bytes.as_slice())
+    Identifier::known(alloc, bytes.as_slice())
 }
 
 // A name has a byte. It does nothing, and is here for the proof alone.

@@ -4,7 +4,7 @@ ghost use Rattle.crate_form.specs.Elements.{CallIsNamed, FieldIsReady, HasName, 
 ghost use Rattle.crate_form.specs.Registers.{bit_kind, field_array, field_of, marked, number_call};
 ghost use Rattle.svd_model.specs.Trees.{register_under};
 
-use crate::name::{accessor_of, identifier, marker_of, some_name};
+use crate::name::{accessor_of, marker_of, some_name};
 use frag_tree::{BitKind, Identifier, NumberCall};
 use indexmap::IndexMap;
 use pac_base::{NoMemory, Seq};
@@ -45,7 +45,7 @@ fn number_calls(alloc: Global, calls: &[Call]) -> Result<Seq<NumberCall>, NoMemo
     let mut made = Seq::new(alloc);
     for call in calls {
         made.push(NumberCall {
-            name: identifier(alloc, call.name.bytes())?,
+            name: Identifier::known(alloc, call.name.bytes())?,
             value: call.value,
         })?;
     }
@@ -58,7 +58,7 @@ fn field(alloc: Global, marker: Identifier, row: &FieldRow) -> Result<Field, NoM
     ensures { IfOk result (λ made. made ≡ field_of marker row.now) }
 {
     Ok(Field {
-        name: identifier(alloc, row.name.bytes())?,
+        name: Identifier::known(alloc, row.name.bytes())?,
         marker,
         offset: u64::from(row.offset),
         bits: u64::from(row.width),

@@ -59,13 +59,21 @@ impl Identifier {
         })
     }
 
+    /// The identifier that these bytes spell, which are known to be one, without a look at them.
+    pub fn known(alloc: Global, bytes: &[u8]) -> Result<Identifier, NoMemory>
+        requires { IsIdentifier bytes.now }
+        ensures { IfOk result (λ identifier. identifier ≡ bytes.now) }
+    {
+        Ok(Identifier {
+            bytes: Vec::from_slice(alloc, bytes)?,
+        })
+    }
+
     /// The same identifier once more.
     pub fn copy(&self, alloc: Global) -> Result<Identifier, NoMemory>
         ensures { IfOk result (λ identifier. identifier ≡ self.now) }
     {
-        Ok(Identifier {
-            bytes: Vec::from_slice(alloc, self.bytes.as_slice())?,
-        })
+        Identifier::known(alloc, self.bytes())
     }
 
     /// The same bytes, which are an identifier.

@@ -4,9 +4,9 @@ use Rattle.block_form.specs.Gaps.{gap_name}
 use Rattle.block_form.proofs.GapNames.{gap-identifier}
 use Rattle.block_form.proofs.field.gap_name.Goals as goal
 
-pub identifier-requires : goal.identifier-requires
+pub known-requires : goal.known-requires
 unfolding gap_name
-identifier-requires c =
+known-requires c =
     subst IsIdentifier
     (sym (c.as_slice-2.ensures.value ∙ (c.in_ok-extend_from_slice.ensures.items ∙ λ i. (c.in_ok-bytes.ensures.items ∙ c.as_slice.ensures) i ++ (c.as_bytes.ensures.value ∙ c.format.ensures.text) i)))
     (gap-identifier c.args.number)
@@ -14,6 +14,6 @@ identifier-requires c =
 pub returns : goal.returns
 unfolding gap_name
 returns c =
-    subst (λ name. IfOk c.identifier.result (λ made. made ≡ name))
+    subst (λ name. IfOk c.known.result (λ made. made ≡ name))
     (c.as_slice-2.ensures.value ∙ (c.in_ok-extend_from_slice.ensures.items ∙ λ i. (c.in_ok-bytes.ensures.items ∙ c.as_slice.ensures) i ++ (c.as_bytes.ensures.value ∙ c.format.ensures.text) i))
-    c.identifier.ensures
+    c.known.ensures

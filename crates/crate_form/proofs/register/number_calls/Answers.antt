@@ -9,7 +9,7 @@ loop-call-preserved c =
     let calls = c.args.calls.now in
     let i = c.loop-call.call-index in
     let item = c.call-item.result in
-    let named = c.in_ok-identifier.ensures ∙ c.bytes.ensures.same in
+    let named = c.in_ok-known.ensures ∙ c.bytes.ensures.same in
     c.in_ok-push.ensures.ok
     ∙ (ap₂ (λ (made : List NumberCall) (name : List ℕ). made ++ record { name = name; value = item.value } ∷ []) c.loop-call.invariant named
     ∙ (ap (λ call. map number_call (take i calls) ++ number_call call ∷ []) c.call-item.is
