@@ -1,0 +1,6 @@
+pub mod Parts
+pub mod PlainScalars
+pub mod Scalars
+pub mod FlowCollections
+pub mod Contents
+pub mod Lines

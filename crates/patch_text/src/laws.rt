@@ -1,0 +1,57 @@
+ghost use Rattle.std.specs.Prelude.{◌≡◌, ◌↔◌, ℕ, Bool, true, List, Some};
+ghost use Rattle.patch_text.specs.Contents.{IsContent, IsLastValue};
+ghost use Rattle.patch_text.specs.FlowCollections.{IsFlowList, IsFlowMapping};
+ghost use Rattle.patch_text.specs.Lines.{Says};
+ghost use Rattle.patch_text.specs.PlainScalars.{BeginsWithPlain};
+ghost use Rattle.text_scan.specs.Fronts.{rest_of};
+ghost use Rattle.yaml_block.specs.Contents.{content_at};
+ghost use Rattle.yaml_block.specs.Lines.{said_at};
+ghost use Rattle.yaml_block.specs.Scalars.{plain_at};
+ghost use Rattle.yaml_block.specs.Spaces.{ends, is_space};
+ghost use Rattle.yaml_block.specs.Values.{mapping_at, sequence_at, value_at};
+ghost use Rattle.yaml_block.specs.declared.content.Content.{Content};
+ghost use Rattle.yaml_block.specs.declared.line.Said.{Said};
+ghost use Rattle.yaml_block.specs.declared.scalar.Place.{Place};
+ghost use Rattle.yaml_block.specs.declared.value.Value.{Value};
+
+/// Behind spaces a plain scalar is read, and this rest is left, exactly where the text begins with
+/// spaces, a text that is plain, spaces, and a rest that the scalar doesn't go on into.
+pub fn plain_law()
+    ensures { (place : Place) (text scalar rest : List ℕ) →
+        (plain_at place (rest_of is_space text) ≡ Some (scalar, rest)) ↔ BeginsWithPlain place scalar text rest }
+{}
+
+/// Behind `[` these scalars are read exactly where they stand there with commas between them, up to
+/// `]` and this rest.
+pub fn flow_list_law()
+    ensures { (text rest : List ℕ) (scalars : List (List ℕ)) →
+        (sequence_at text ≡ Some (scalars, rest)) ↔ IsFlowList scalars text rest }
+{}
+
+/// Behind `{` these keys are read with their values exactly where they stand there with commas
+/// between them, up to `}` and this rest.
+pub fn flow_mapping_law()
+    ensures { (text rest : List ℕ) (pairs : List (List ℕ × List ℕ)) →
+        (mapping_at text ≡ Some (pairs, rest)) ↔ IsFlowMapping pairs text rest }
+{}
+
+/// Behind spaces a value is read, and nothing that counts is left, exactly where the text is spaces,
+/// the value, spaces, and nothing or a comment.
+pub fn value_law()
+    ensures { (text : List ℕ) (value : Value) →
+        ((rest : List ℕ) × (value_at (rest_of is_space text) ≡ Some (value, rest)) × (ends rest ≡ true)) ↔ IsLastValue value text }
+{}
+
+/// A text that doesn't begin with a space is read as this content of a line exactly where it is that
+/// content: `- value`, `key:` or `key: value`.
+pub fn content_law()
+    ensures { (text : List ℕ) (content : Content) →
+        rest_of is_space text ≡ text → (content_at text ≡ Some content) ↔ IsContent content text }
+{}
+
+/// A line is read as saying this exactly where it says it: nothing, the mark `---` before all other
+/// lines, or its content behind as many spaces as its indent.
+pub fn line_law()
+    ensures { (first : Bool) (number : ℕ) (raw : List ℕ) (said : Said) →
+        (said_at first number raw ≡ Some said) ↔ Says first number raw said }
+{}
