@@ -1,3 +1,5 @@
 pub mod Texts
 pub mod Ends
 pub mod Plain
+pub mod Scalars
+pub mod Flow
