@@ -3,3 +3,5 @@ pub mod Ends
 pub mod Plain
 pub mod Scalars
 pub mod Flow
+pub mod Values
+pub mod Contents

@@ -35,7 +35,7 @@ last_stop false true c d e = refl
 last_stop false false true d e = refl
 last_stop false false false d e = e
 
-nothing_stops : (place : Place) → stops place [] ≡ true
+pub nothing_stops : (place : Place) → stops place [] ≡ true
 unfolding stops
 nothing_stops place = refl
 
@@ -43,7 +43,7 @@ pub colon_stops : (place : Place) (text : List ℕ) → is_parted text ≡ true 
 unfolding stops
 colon_stops place text parted = rw parted refl
 
-parted_space : (text : List ℕ) → is_parted (32 ∷ text) ≡ true
+pub parted_space : (text : List ℕ) → is_parted (32 ∷ text) ≡ true
 unfolding is_parted
 parted_space text = refl
 
