@@ -5,3 +5,5 @@ pub mod Scalars
 pub mod Flow
 pub mod Values
 pub mod Contents
+pub mod Lines
+pub mod SpokenPatterns

@@ -4,3 +4,4 @@ pub mod Scalars
 pub mod FlowCollections
 pub mod Contents
 pub mod Lines
+pub mod SpokenPatterns

@@ -1,8 +1,14 @@
-ghost use Rattle.std.specs.Prelude.{◌≡◌, ◌↔◌, ℕ, Bool, true, List, Some};
+ghost use Rattle.glob_select.specs.Items.{Item};
+ghost use Rattle.glob_select.specs.Reading.{alternatives_of};
+ghost use Rattle.glob_select.specs.Refusals.{IsPattern};
+ghost use Rattle.glob_select.specs.Spelling.{SpellsPattern};
+ghost use Rattle.std.specs.Prelude.{◌≡◌, ◌↔◌, ℕ, Bool, true, List, Some, codes};
 ghost use Rattle.patch_text.specs.Contents.{IsContent, IsLastValue};
 ghost use Rattle.patch_text.specs.FlowCollections.{IsFlowList, IsFlowMapping};
 ghost use Rattle.patch_text.specs.Lines.{Says};
+ghost use Rattle.patch_text.specs.Parts.{BeginsWith};
 ghost use Rattle.patch_text.specs.PlainScalars.{BeginsWithPlain};
+ghost use Rattle.patch_text.specs.SpokenPatterns.{CommandsSpeakAsSpelled};
 ghost use Rattle.text_scan.specs.Fronts.{rest_of};
 ghost use Rattle.yaml_block.specs.Contents.{content_at};
 ghost use Rattle.yaml_block.specs.Lines.{said_at};
@@ -46,7 +52,7 @@ pub fn value_law()
 /// content: `- value`, `key:` or `key: value`.
 pub fn content_law()
     ensures { (text : List ℕ) (content : Content) →
-        rest_of is_space text ≡ text → (content_at text ≡ Some content) ↔ IsContent content text }
+        (¬ BeginsWith (codes " ") text) → (content_at text ≡ Some content) ↔ IsContent content text }
 {}
 
 /// A line is read as saying this exactly where it says it: nothing, the mark `---` before all other
@@ -54,4 +60,18 @@ pub fn content_law()
 pub fn line_law()
     ensures { (first : Bool) (number : ℕ) (raw : List ℕ) (said : Said) →
         (said_at first number raw ≡ Some said) ↔ Says first number raw said }
+{}
+
+/// A text spells these alternatives exactly where it is a pattern and they are those that commands
+/// have of it: it spells no others.
+pub fn pattern_law()
+    ensures { (text : List ℕ) (alternatives : List (List Item)) →
+        SpellsPattern alternatives text ↔ (IsPattern text × (alternatives ≡ alternatives_of text)) }
+{}
+
+/// Each command of a patch speaks of the patterns that texts of the patch spell: its parents are
+/// spelled by the keys that lead to its mapping, and the pattern of what it does by a text of that
+/// mapping, on the line of the command.
+pub fn spoken_law()
+    ensures { CommandsSpeakAsSpelled }
 {}
