@@ -1,5 +1,5 @@
 -- The content of a line is read as it is spelled.
-use Rattle.std.proofs.Common.{◌≡◌, ℕ, Bool, true, false, ◌&&◌, ◌||◌, eqb, cond, List, [], ◌∷◌, ◌++◌, length, Option, Some, refl, sym, ap, subst, ◌∙◌, inl, inr, append_assoc}
+use Rattle.std.proofs.Common.{◌≡◌, ℕ, true, false, eqb, cond, List, [], ◌∷◌, ◌++◌, length, Some, refl, sym, ap, subst, ◌∙◌, inl, inr, append_assoc}
 use Rattle.std.specs.Prelude.{codes, None}
 use Rattle.std.proofs.lemmas.Bool.{cases_Bool, eqb-true}
 use Rattle.text_scan.specs.Fronts.{front_of, rest_of, stripped_of, StopsAt}
@@ -7,7 +7,7 @@ use Rattle.text_scan.specs.Steps.{◌>>=◌}
 use Rattle.text_scan.proofs.FixedText.{stripped-append, stripped-None, stripped-Some}
 use Rattle.text_scan.proofs.Fronts.{front-rest, front_passes, rest-append}
 use Rattle.text_scan.proofs.Lists.{given}
-use Rattle.text_scan.proofs.Steps.{bind_some, cases_option, guard_some, some_is}
+use Rattle.text_scan.proofs.Steps.{bind_some, cases_option, guard_some}
 use Rattle.yaml_block.specs.declared.content.Content.{Content}
 use Rattle.yaml_block.specs.declared.content.Content.TheVariants.{Item, Key, Entry}
 use Rattle.yaml_block.specs.declared.scalar.Place.TheVariants.{Line}
@@ -163,7 +163,7 @@ content_again text (Entry key value) is = keyed text key (32 ∷ is.0) is.1 (par
 -- ---- where a content begins
 
 dash_begins : (text inside : List ℕ) → text ≡ codes "- " ++ inside → Begins text
-dash_begins text inside opens = record { byte = 45; more = 32 ∷ inside; whole = opens; no_space = refl; no_hash = refl; }
+dash_begins text inside opens = record { byte = 45; more = 32 ∷ inside; whole = opens; no_space = refl; no_hash = refl }
 
 pub content_begins : (text : List ℕ) (content : Content) → IsContent content text → Begins text
 content_begins text (Item value) is = dash_begins text is.0 is.1

@@ -1,5 +1,5 @@
 -- Flow collections are read as they are spelled: members with commas between them, and the mark that closes.
-use Rattle.std.proofs.Common.{◌≡◌, ℕ, Bool, true, false, eqb, List, [], ◌∷◌, ◌++◌, Option, Some, refl, sym, ap, subst, ◌∙◌, inl, inr, append_assoc}
+use Rattle.std.proofs.Common.{◌≡◌, ℕ, true, false, eqb, List, [], ◌∷◌, ◌++◌, Option, Some, refl, sym, ap, subst, ◌∙◌, inl, inr, append_assoc}
 use Rattle.std.specs.Prelude.{codes, None}
 use Rattle.text_scan.specs.Fronts.{front_of, rest_of, stripped_of, StopsAt}
 use Rattle.text_scan.specs.Lists.{ReadsAll, items_at}
@@ -13,7 +13,6 @@ use Rattle.yaml_block.specs.Scalars.{is_plain, plain_at, plain_front, scalar_at,
 use Rattle.yaml_block.specs.Spaces.{is_parted, is_space, starts, trimmed}
 use Rattle.yaml_block.specs.Values.{mapping_at, mapping_or_none, next_pair_at, next_text_at, pair_at, pairs_at, sequence_at, sequence_or_none, text_at, texts_at}
 use Rattle.yaml_block.proofs.Shrinking.{next_pair_shrinks, next_text_shrinks}
-use Rattle.patch_text.specs.Parts.{AreSpaces}
 use Rattle.patch_text.specs.Scalars.{IsScalar}
 use Rattle.patch_text.specs.FlowCollections.{AreMembers, IsFlowList, IsFlowMapping, IsMember, IsNext, IsPair}
 use Rattle.patch_text.proofs.Plain.{colon_stops}

@@ -7,3 +7,4 @@ pub mod Values
 pub mod Contents
 pub mod Lines
 pub mod SpokenPatterns
+pub mod WorkedTexts

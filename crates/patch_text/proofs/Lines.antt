@@ -1,11 +1,10 @@
 -- What a line says is read as it is said.
-use Rattle.std.proofs.Common.{◌≡◌, ℕ, ◌+◌, ◌-◌, Bool, true, false, not, ◌&&◌, ◌||◌, eqb, cond, List, [], ◌∷◌, ◌++◌, length, Option, Some, refl, sym, ap, subst, ◌∙◌, ◌⊎◌, inl, inr, arith, append-nil}
+use Rattle.std.proofs.Common.{◌≡◌, ℕ, ◌-◌, Bool, true, false, ◌&&◌, ◌||◌, eqb, List, [], ◌∷◌, ◌++◌, length, Some, refl, sym, ap, subst, ◌∙◌, inl, inr, arith, append-nil}
 use Rattle.std.specs.Prelude.{codes, None}
 use Rattle.std.specs.Str.{is_utf8}
-use Rattle.std.proofs.lemmas.Bool.{cases_Bool, and_left, and_parts, and_right, eq-eqb, eqb-true, or_right, true≢false}
+use Rattle.std.proofs.lemmas.Bool.{cases_Bool, and_parts, and_right, eq-eqb, eqb-true, or_right, true≢false}
 use Rattle.std.proofs.lemmas.List.{length-append}
-use Rattle.text_scan.specs.Fronts.{front_of, rest_of, stripped_of, StopsAt}
-use Rattle.text_scan.specs.Steps.{◌>>=◌}
+use Rattle.text_scan.specs.Fronts.{front_of, rest_of, stripped_of}
 use Rattle.text_scan.proofs.FixedText.{stripped-append, stripped-None, stripped-Some}
 use Rattle.text_scan.proofs.Fronts.{front-rest, front_passes, length-rest, rest_stops, rest-append}
 use Rattle.text_scan.proofs.Lists.{given}
@@ -97,9 +96,8 @@ line_takes : (number : ℕ) (raw : List ℕ) (said : Said) → line_at number ra
 unfolding line_at
 line_takes number raw said e =
     let line_of = λ (content : Content). Told (record { number = number; indent = length raw - length (rest_of is_space raw); content = content }) in
-    let one = bind_some (content_at (rest_of is_space raw)) (λ content. given (line_of content)) said e in
-    (
-      record { number = number; indent = length raw - length (rest_of is_space raw); content = one.0; },
+    let one = bind_some (content_at (rest_of is_space raw)) (λ content. given (line_of content)) said e in (
+      record { number = number; indent = length raw - length (rest_of is_space raw); content = one.0 },
       record {
         gap = front_of is_space raw;
         text = rest_of is_space raw;
@@ -179,7 +177,7 @@ no_mark : (number : ℕ) (raw : List ℕ) (line : Line) → SaysContent number r
 unfolding is_mark
 no_mark number raw line s =
     ap ends_behind (stripped-None (codes "---") raw (λ after e.
-        dashes_no_content line.content s.text (45 ∷ after) s.content_there (sym (line_clear number raw line s) ∙ ap (rest_of is_space) e ∙ dashes_clear after)))
+    dashes_no_content line.content s.text (45 ∷ after) s.content_there (sym (line_clear number raw line s) ∙ ap (rest_of is_space) e ∙ dashes_clear after)))
 
 pub says_again : (first : Bool) (number : ℕ) (raw : List ℕ) (said : Said) → Says first number raw said → said_at first number raw ≡ Some said
 says_again first number raw Nothing says = skipped_there first number raw says.0 (nothing_again raw says.1)

@@ -1,5 +1,5 @@
 -- A plain scalar at the front of a text: the reader takes what is plain, and goes on to where no plain scalar goes on.
-use Rattle.std.proofs.Common.{◌≡◌, ◌≢◌, ℕ, Bool, true, false, not, ◌&&◌, ◌||◌, eqb, List, [], ◌∷◌, ◌++◌, length, Some, refl, sym, ap, subst, ◌∙◌, ◌⊎◌, inl, inr, append_assoc}
+use Rattle.std.proofs.Common.{◌≡◌, ◌≢◌, ℕ, Bool, true, false, not, ◌&&◌, ◌||◌, eqb, List, [], ◌∷◌, ◌++◌, length, Some, refl, sym, ap, subst, ◌∙◌, ◌⊎◌, inl, inr, append-nil, append_assoc}
 use Rattle.std.specs.Prelude.{codes, slice_index, None}
 use Rattle.std.specs.List.{list_all}
 use Rattle.std.specs.Str.{is_utf8}
@@ -15,7 +15,7 @@ use Rattle.yaml_block.specs.Scalars.{is_flow_mark, is_in_flow, is_indicator, is_
 use Rattle.yaml_block.specs.Spaces.{is_parted, is_space, starts, trimmed}
 use Rattle.patch_text.specs.Parts.{BeginsWith, EndsWith, Holds, AreSpaces}
 use Rattle.patch_text.specs.PlainScalars.{BeginsWithMark, BeginsWithPlain, HoldsNoMark, IsAmong, IsPlain, StopsPlain, flow_marks, indicators}
-use Rattle.patch_text.proofs.Texts.{among_any, among_mark, any_among, both, ends_behind, holds_behind, mark_among, stops_where, trimmed_parts, trimmed-append}
+use Rattle.patch_text.proofs.Texts.{among_any, among_mark, any_among, ends_behind, holds_behind, mark_among, stops_where, trimmed_parts, trimmed-append}
 
 -- ---- where a plain scalar ends
 
@@ -385,7 +385,7 @@ plain_takes place text scalar rest clear e =
 -- ---- what is plain is read
 
 inner_of : (place : Place) (text : List ℕ) → IsPlain place text → Inner place text
-inner_of place text p = record { no_entry = p.no_entry; no_comment = p.no_comment; no_key = p.no_key; no_tab = p.no_tab; no_space = p.no_space_behind; no_mark = p.no_mark; }
+inner_of place text p = record { no_entry = p.no_entry; no_comment = p.no_comment; no_key = p.no_key; no_tab = p.no_tab; no_space = p.no_space_behind; no_mark = p.no_mark }
 
 pub plain_again : (place : Place) (scalar behind rest : List ℕ) → IsPlain place scalar → AreSpaces behind → stops place rest ≡ true → plain_at place (scalar ++ (behind ++ rest)) ≡ Some (scalar, rest)
 unfolding plain_at text_of
@@ -401,6 +401,12 @@ plain_begins place [] more p = absurd (p.some refl)
 plain_begins place (byte ∷ scalar) more p = stops_where (byte ∷ scalar) p.no_space_before
 
 -- ---- the law
+
+pub whole_takes : (place : Place) (text : List ℕ) → ¬ BeginsWith (codes " ") text → plain_at place text ≡ Some (text, []) → IsPlain place text
+whole_takes place text clear e = (plain_takes place text text [] (stops_where text clear) e).plain
+
+pub whole_again : (place : Place) (text : List ℕ) → IsPlain place text → plain_at place text ≡ Some (text, [])
+whole_again place text p = ap (plain_at place) (sym (append-nil text)) ∙ plain_again place text [] [] p refl (nothing_stops place)
 
 pub plain_law_takes : (place : Place) (text scalar rest : List ℕ) → plain_at place (rest_of is_space text) ≡ Some (scalar, rest) → BeginsWithPlain place scalar text rest
 plain_law_takes place text scalar rest e =

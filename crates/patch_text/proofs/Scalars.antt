@@ -1,12 +1,11 @@
 -- Scalars are read as they are spelled.
-use Rattle.std.proofs.Common.{◌≡◌, ℕ, Bool, true, false, eqb, List, [], ◌∷◌, ◌++◌, Some, refl, sym, ap, subst, ◌∙◌, inl, inr}
+use Rattle.std.proofs.Common.{◌≡◌, ℕ, true, false, eqb, List, [], ◌∷◌, ◌++◌, Some, refl, sym, ap, subst, ◌∙◌, inl, inr}
 use Rattle.std.specs.Prelude.{codes, None}
 use Rattle.std.specs.List.{list_any}
 use Rattle.std.proofs.lemmas.Bool.{cases_Bool, eq-eqb, eqb-true, true≢false}
 use Rattle.text_scan.specs.Fronts.{stripped_of, StopsAt}
 use Rattle.text_scan.proofs.FixedText.{stripped-None, stripped-Some}
 use Rattle.text_scan.proofs.Steps.{cases_option}
-use Rattle.yaml_block.specs.declared.quoted.Quote.{Quote}
 use Rattle.yaml_block.specs.declared.quoted.Quote.TheVariants.{Single, Double}
 use Rattle.yaml_block.specs.declared.scalar.Place.{Place}
 use Rattle.yaml_block.specs.Scalars.{mark_of, plain_at, quoted_at, scalar_at, stops}
@@ -30,15 +29,15 @@ scalar_takes place text scalar rest clear e =
     elim (cases_option (stripped_of (codes "'") text)) [
       | inr single ↦
           let e' : quoted_at Single single.0 ≡ Some (scalar, rest) = rw single.1 at e in
-          record { behind = []; spaces = refl; scalar_there = inr (inl (single.0, stripped-Some (codes "'") text single.0 single.1, quoted_takes Single single.0 scalar rest e')); }
+          record { behind = []; spaces = refl; scalar_there = inr (inl (single.0, stripped-Some (codes "'") text single.0 single.1, quoted_takes Single single.0 scalar rest e')) }
       | inl none ↦ elim (cases_option (stripped_of (codes "\"") text)) [
         | inr double ↦
             let e' : quoted_at Double double.0 ≡ Some (scalar, rest) = rw (none, double.1) at e in
-            record { behind = []; spaces = refl; scalar_there = inr (inr (double.0, stripped-Some (codes "\"") text double.0 double.1, quoted_takes Double double.0 scalar rest e')); }
+            record { behind = []; spaces = refl; scalar_there = inr (inr (double.0, stripped-Some (codes "\"") text double.0 double.1, quoted_takes Double double.0 scalar rest e')) }
         | inl other ↦
             let e' : plain_at place text ≡ Some (scalar, rest) = rw (none, other) at e in
             let read = plain_takes place text scalar rest clear e' in
-            record { behind = read.behind; spaces = read.spaces; scalar_there = inl (read.plain, read.whole); }
+            record { behind = read.behind; spaces = read.spaces; scalar_there = inl (read.plain, read.whole) }
       ]
     ]
 
@@ -117,8 +116,8 @@ scalar_begins place scalar text rest is =
     elim is [
       | inl plain ↦ subst Begins (sym plain.1) (plain_first place scalar rest plain.0)
       | inr quoted ↦ elim quoted [
-        | inl single ↦ record { byte = 39; more = single.0; whole = single.1; no_space = refl; no_hash = refl; }
-        | inr double ↦ record { byte = 34; more = double.0; whole = double.1; no_space = refl; no_hash = refl; }
+        | inl single ↦ record { byte = 39; more = single.0; whole = single.1; no_space = refl; no_hash = refl }
+        | inr double ↦ record { byte = 34; more = double.0; whole = double.1; no_space = refl; no_hash = refl }
       ]
     ]
 

@@ -1,5 +1,5 @@
 -- The commands of a patch, in the order in which a mapping gives them, each with the texts that spell its patterns.
-use Rattle.std.proofs.Common.{◌≡◌, ◌⊎◌, ℕ, Bool, true, false, List, [], ◌∷◌, ◌++◌, Option, Some, None, codes, refl, sym, ap, subst, ◌∙◌, inl, inr, if◌then◌else◌}
+use Rattle.std.proofs.Common.{◌≡◌, ℕ, Bool, true, false, List, [], ◌∷◌, ◌++◌, Option, Some, None, codes, refl, sym, subst, inl, inr, if◌then◌else◌}
 use Rattle.std.specs.List.{AllByRecursion}
 use Rattle.std.proofs.lemmas.Slice.Eq.{bytes_eq-Decides}
 use Rattle.glob_select.specs.Items.{Item}
@@ -80,7 +80,7 @@ module _ (root : Tree) where
 
   module _ (keys : List (List ℕ)) (named : EntryTrees) (lead : LeadTo keys root named) (parents : List PatternItems) (spelled : AreSpelled parents keys) where
     said : (line : ℕ) (deed : Deed) → IsSpelledIn named line deed → SpeaksAsSpelled root (record { line = line; parents = parents; deed = deed })
-    said line deed is = record { keys = keys; named = named; lead = lead; parents = spelled; deed = is; }
+    said line deed is = record { keys = keys; named = named; lead = lead; parents = spelled; deed = is }
 
     -- ---- the entries of a command's mapping
 

@@ -1,8 +1,7 @@
 -- Values behind spaces are read as they are spelled.
-use Rattle.std.proofs.Common.{◌≡◌, ℕ, Bool, true, false, eqb, List, [], ◌∷◌, ◌++◌, Option, Some, refl, sym, ap, subst, ◌∙◌, inl, inr, append-nil}
+use Rattle.std.proofs.Common.{◌≡◌, ℕ, true, List, [], ◌∷◌, ◌++◌, Some, refl, sym, ap, subst, ◌∙◌, inl, inr, append-nil}
 use Rattle.std.specs.Prelude.{codes, None}
 use Rattle.text_scan.specs.Fronts.{front_of, rest_of, stripped_of, StopsAt}
-use Rattle.text_scan.specs.Steps.{◌>>=◌}
 use Rattle.text_scan.proofs.FixedText.{stripped-None, stripped-Some}
 use Rattle.text_scan.proofs.Fronts.{front-rest, front_passes, rest_stops, rest-append}
 use Rattle.text_scan.proofs.Lists.{given}
@@ -32,14 +31,14 @@ list_read text inside value rest opens e end =
     let one = bind_some (sequence_at inside) (λ x. given (Sequence x.0, x.1)) (value, rest) e in
     let same = some_is (Sequence one.0.0, one.0.1) (value, rest) one.2 in
     let there : IsValue (Sequence one.0.0) text one.0.1 = (inside, opens, list_takes inside one.0.0 one.0.1 one.1) in
-    record { rest = rest; value_there = subst (λ (p : Value × List ℕ). IsValue p.0 text p.1) same there; end_there = end; }
+    record { rest = rest; value_there = subst (λ (p : Value × List ℕ). IsValue p.0 text p.1) same there; end_there = end }
 
 mapping_read : (text inside : List ℕ) (value : Value) (rest : List ℕ) → text ≡ codes "{" ++ inside → of_mapping (mapping_at inside) ≡ Some (value, rest) → IsEnd rest → IsValueRead value text
 mapping_read text inside value rest opens e end =
     let one = bind_some (mapping_at inside) (λ x. given (Mapping x.0, x.1)) (value, rest) e in
     let same = some_is (Mapping one.0.0, one.0.1) (value, rest) one.2 in
     let there : IsValue (Mapping one.0.0) text one.0.1 = (inside, opens, mapping_takes inside one.0.0 one.0.1 one.1) in
-    record { rest = rest; value_there = subst (λ (p : Value × List ℕ). IsValue p.0 text p.1) same there; end_there = end; }
+    record { rest = rest; value_there = subst (λ (p : Value × List ℕ). IsValue p.0 text p.1) same there; end_there = end }
 
 scalar_read : (text : List ℕ) (value : Value) (rest : List ℕ) → StopsAt is_space text → of_scalar (scalar_at Line text) ≡ Some (value, rest) → IsEnd rest → IsValueRead value text
 scalar_read text value rest clear e end =
@@ -47,7 +46,7 @@ scalar_read text value rest clear e end =
     let same = some_is (Scalar one.0.0, one.0.1) (value, rest) one.2 in
     let read = scalar_takes Line text one.0.0 one.0.1 clear one.1 in
     let end' : IsEnd one.0.1 = subst (λ (p : Value × List ℕ). IsEnd p.1) (sym same) end in
-    let there : IsValueRead (Scalar one.0.0) text = record { rest = read.behind ++ one.0.1; value_there = read.scalar_there; end_there = end_behind read.behind one.0.1 read.spaces end'; } in
+    let there : IsValueRead (Scalar one.0.0) text = record { rest = read.behind ++ one.0.1; value_there = read.scalar_there; end_there = end_behind read.behind one.0.1 read.spaces end' } in
     subst (λ (p : Value × List ℕ). IsValueRead p.0 text) same there
 
 value_takes : (text : List ℕ) (value : Value) (rest : List ℕ) → StopsAt is_space text → value_at text ≡ Some (value, rest) → IsEnd rest → IsValueRead value text
@@ -81,7 +80,7 @@ record IsStopped (text : List ℕ) : Type 0 where
 stopped : (text : List ℕ) → IsEnd text → IsStopped text
 stopped text is =
     elim is [
-      | inl spaces ↦ record { behind = text; rest = []; spaces = spaces; whole = sym (append-nil text); stop = nothing_stops Line; end_there = inl refl; }
+      | inl spaces ↦ record { behind = text; rest = []; spaces = spaces; whole = sym (append-nil text); stop = nothing_stops Line; end_there = inl refl }
       | inr at ↦ record {
         behind = at.0;
         rest = at.1;
@@ -121,8 +120,8 @@ value_again (Mapping pairs) text rest is end =
 
 pub value_begins : (value : Value) (text rest : List ℕ) → IsValue value text rest → Begins text
 value_begins (Scalar scalar) text rest is = scalar_begins Line scalar text rest is
-value_begins (Sequence scalars) text rest is = record { byte = 91; more = is.0; whole = is.1; no_space = refl; no_hash = refl; }
-value_begins (Mapping pairs) text rest is = record { byte = 123; more = is.0; whole = is.1; no_space = refl; no_hash = refl; }
+value_begins (Sequence scalars) text rest is = record { byte = 91; more = is.0; whole = is.1; no_space = refl; no_hash = refl }
+value_begins (Mapping pairs) text rest is = record { byte = 123; more = is.0; whole = is.1; no_space = refl; no_hash = refl }
 
 -- ---- behind spaces
 

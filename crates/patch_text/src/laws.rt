@@ -2,12 +2,12 @@ ghost use Rattle.glob_select.specs.Items.{Item};
 ghost use Rattle.glob_select.specs.Reading.{alternatives_of};
 ghost use Rattle.glob_select.specs.Refusals.{IsPattern};
 ghost use Rattle.glob_select.specs.Spelling.{SpellsPattern};
-ghost use Rattle.std.specs.Prelude.{◌≡◌, ◌↔◌, ℕ, Bool, true, List, Some, codes};
+ghost use Rattle.std.specs.Prelude.{◌≡◌, ◌↔◌, ℕ, Bool, true, List, [], Some, codes};
 ghost use Rattle.patch_text.specs.Contents.{IsContent, IsLastValue};
 ghost use Rattle.patch_text.specs.FlowCollections.{IsFlowList, IsFlowMapping};
 ghost use Rattle.patch_text.specs.Lines.{Says};
 ghost use Rattle.patch_text.specs.Parts.{BeginsWith};
-ghost use Rattle.patch_text.specs.PlainScalars.{BeginsWithPlain};
+ghost use Rattle.patch_text.specs.PlainScalars.{BeginsWithPlain, IsPlain};
 ghost use Rattle.patch_text.specs.SpokenPatterns.{CommandsSpeakAsSpelled};
 ghost use Rattle.text_scan.specs.Fronts.{rest_of};
 ghost use Rattle.yaml_block.specs.Contents.{content_at};
@@ -20,10 +20,13 @@ ghost use Rattle.yaml_block.specs.declared.line.Said.{Said};
 ghost use Rattle.yaml_block.specs.declared.scalar.Place.{Place};
 ghost use Rattle.yaml_block.specs.declared.value.Value.{Value};
 
-/// Behind spaces a plain scalar is read, and this rest is left, exactly where the text begins with
-/// spaces, a text that is plain, spaces, and a rest that the scalar doesn't go on into.
+/// A text that doesn't begin with a space is read whole as a plain scalar exactly where it is plain.
+/// Behind spaces a plain scalar is read, and this rest is left, exactly where the text is spaces, a
+/// text that is plain, spaces, and a rest that the scalar doesn't go on into.
 pub fn plain_law()
-    ensures { (place : Place) (text scalar rest : List ℕ) →
+    ensures whole { (place : Place) (text : List ℕ) →
+        (¬ BeginsWith (codes " ") text) → (plain_at place text ≡ Some (text, [])) ↔ IsPlain place text }
+    ensures front { (place : Place) (text scalar rest : List ℕ) →
         (plain_at place (rest_of is_space text) ≡ Some (scalar, rest)) ↔ BeginsWithPlain place scalar text rest }
 {}
 

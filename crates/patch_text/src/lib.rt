@@ -5,4 +5,7 @@
 
 mod laws;
 
-pub use laws::{content_law, flow_list_law, flow_mapping_law, line_law, pattern_law, plain_law, spoken_law, value_law};
+pub use laws::{
+    content_law, flow_list_law, flow_mapping_law, line_law, pattern_law, plain_law, spoken_law,
+    value_law,
+};
