@@ -1,10 +1,13 @@
 -- The content of a line: a value behind `- `, a key, or a key and its value, with spaces round them and a comment behind.
-use Rattle.std.specs.Prelude.{◌≡◌, ℕ, List, ◌++◌, codes}
+use Rattle.std.specs.Prelude.{◌≡◌, ℕ, true, List, ◌++◌, Some, codes}
 use Rattle.yaml_block.specs.declared.content.Content.{Content}
 use Rattle.yaml_block.specs.declared.content.Content.TheVariants.{Item, Key, Entry}
 use Rattle.yaml_block.specs.declared.scalar.Place.TheVariants.{Line}
 use Rattle.yaml_block.specs.declared.value.Value.{Value}
 use Rattle.yaml_block.specs.declared.value.Value.TheVariants.{Scalar, Sequence, Mapping}
+use Rattle.text_scan.specs.Fronts.{rest_of}
+use Rattle.yaml_block.specs.Spaces.{ends, is_space}
+use Rattle.yaml_block.specs.Values.{value_at}
 use Rattle.patch_text.specs.Parts.{AreSpaces, IsEnd}
 use Rattle.patch_text.specs.Scalars.{IsScalar}
 use Rattle.patch_text.specs.FlowCollections.{IsFlowList, IsFlowMapping}
@@ -24,6 +27,10 @@ pub record IsLastValue (value : Value) (text : List ℕ) : Type 0 where
   pub opens : text ≡ gap ++ inside
   pub value_there : IsValue value inside rest
   pub end_there : IsEnd rest
+
+-- what the reader of values takes behind spaces is this value, and it leaves nothing that counts
+abbrev pub IsReadLast : Value → List ℕ → Type 0
+IsReadLast value text = (rest : List ℕ) × (value_at (rest_of is_space text) ≡ Some (value, rest)) × (ends rest ≡ true)
 
 -- the text is the key, spaces, a colon, and then the rest
 pub record IsKey (key text rest : List ℕ) : Type 0 where

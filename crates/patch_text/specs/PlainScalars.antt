@@ -1,4 +1,4 @@
--- Which texts are plain scalars, and where a plain scalar ends (YAML's plain scalars, narrowed to one line and stripped of context).
+-- Which texts are plain scalars, and where a plain scalar ends (YAML's plain scalars, narrowed to one line).
 use Rattle.std.specs.Prelude.{◌≡◌, ◌≢◌, ◌⊎◌, ℕ, true, List, [], ◌∷◌, ◌++◌, codes}
 use Rattle.std.specs.Str.{is_utf8}
 use Rattle.yaml_block.specs.declared.scalar.Place.{Place}
@@ -20,8 +20,8 @@ abbrev pub HoldsNoMark : Place → List ℕ → Type 0
 HoldsNoMark Line text = Unit {0}
 HoldsNoMark Flow text = (byte : ℕ) → IsAmong flow_marks byte → ¬ Holds (byte ∷ []) text
 
--- The text isn't empty, doesn't begin with an indicator, holds no `: ` and no ` #`, and doesn't end in `:`. A tab outside quotes and comments
--- is refused, spaces round a scalar are no part of it, and the bytes are UTF-8.
+-- The text isn't empty, doesn't begin with an indicator, holds no `: ` and no ` #`, and doesn't end in `:`; in a flow collection it holds no
+-- mark. A tab outside quotes and comments is refused, spaces round a scalar are no part of it, and the bytes are UTF-8.
 pub record IsPlain (place : Place) (text : List ℕ) : Type 0 where
   pub some : text ≢ []
   pub front : (byte : ℕ) → IsAmong indicators byte → ¬ BeginsWith (byte ∷ []) text
@@ -39,9 +39,11 @@ abbrev pub BeginsWithMark : Place → List ℕ → Type 0
 BeginsWithMark Line text = ⊥
 BeginsWithMark Flow text = (byte : ℕ) × IsAmong flow_marks byte × BeginsWith (byte ∷ []) text
 
--- what may stand behind a plain scalar and the spaces behind it: nothing, `: `, a colon at the end, a comment, a mark, or a tab, which fits nothing
+-- where a plain scalar doesn't go on: at the end, at `: `, at a colon that ends the text, at a comment, at a mark, at a tab, which fits nowhere
 abbrev pub StopsPlain : Place → List ℕ → Type 0
-StopsPlain place text = (text ≡ []) ⊎ (BeginsWith (codes ": ") text ⊎ ((text ≡ codes ":") ⊎ (IsComment text ⊎ (BeginsWithMark place text ⊎ BeginsWith (codes "\t") text))))
+StopsPlain place text =
+    (text ≡ []) ⊎ (BeginsWith (codes ": ") text ⊎ ((text ≡ codes ":") ⊎ (IsComment text
+    ⊎ (BeginsWithMark place text ⊎ BeginsWith (codes "\t") text))))
 
 -- the text is spaces, the plain scalar, spaces, and then the rest, which the scalar doesn't go on into
 pub record BeginsWithPlain (place : Place) (scalar text rest : List ℕ) : Type 0 where

@@ -13,4 +13,5 @@ IsWithin quote scalar text rest = (inside : List ℕ) × (text ≡ mark_of quote
 
 -- the text is the scalar, plain or within quotes, and then the rest
 abbrev pub IsScalar : Place → List ℕ → List ℕ → List ℕ → Type 0
-IsScalar place scalar text rest = (IsPlain place scalar × (text ≡ scalar ++ rest)) ⊎ (IsWithin Single scalar text rest ⊎ IsWithin Double scalar text rest)
+IsScalar place scalar text rest =
+    (IsPlain place scalar × (text ≡ scalar ++ rest)) ⊎ (IsWithin Single scalar text rest ⊎ IsWithin Double scalar text rest)

@@ -10,12 +10,14 @@ use Rattle.patch_form.specs.Parts.{entries_in}
 use Rattle.patch_form.specs.Words.{key_word}
 use Rattle.patch_model.specs.Acts.{Deed, Order, PatternItems, arrays, deletes, modifies, opens}
 use Rattle.patch_model.specs.Answers.{AreOrders}
+use Rattle.patch_model.specs.Readings.{IsReadAs, Spelling, commanded}
 use Rattle.yaml_block.specs.Trees.{Tree, ItemTrees, EntryTrees, scalar, list, mapping, no_items, item, no_entries, entry}
 
 -- the entry is one of the mapping's
 abbrev pub HasEntry : EntryTrees → ℕ → List ℕ → Tree → Type 0
 HasEntry no_entries line key tree = ⊥
-HasEntry (entry number other inside others) line key tree = ((number ≡ line) × (other ≡ key) × (inside ≡ tree)) ⊎ HasEntry others line key tree
+HasEntry (entry number other inside others) line key tree =
+    ((number ≡ line) × (other ≡ key) × (inside ≡ tree)) ⊎ HasEntry others line key tree
 
 -- the item is one of the list's
 abbrev pub HasItem : ItemTrees → ℕ → Tree → Type 0
@@ -47,7 +49,8 @@ IsDeleted named line text =
 -- a key in the value of a command
 abbrev pub IsTarget : Word → EntryTrees → ℕ → List ℕ → Type 0
 IsTarget word named line target =
-    (at : ℕ) × (key : List ℕ) × (value : EntryTrees) × (inside : Tree) × HasEntry named at key (mapping value) × (key_word key ≡ Command word) × HasEntry value line target inside
+    (at : ℕ) × (key : List ℕ) × (value : EntryTrees) × (inside : Tree) × HasEntry named at key (mapping value)
+    × (key_word key ≡ Command word) × HasEntry value line target inside
 
 -- the pattern of what a command does is spelled by a text of the mapping in which the command stands, on its line
 abbrev pub IsSpelledIn : EntryTrees → ℕ → Deed → Type 0
@@ -68,3 +71,7 @@ pub record SpeaksAsSpelled (tree : Tree) (order : Order) : Type 0 where
 -- each command of a patch speaks of the patterns that its texts spell
 abbrev pub CommandsSpeakAsSpelled : Type 0
 CommandsSpeakAsSpelled = (tree : Tree) (orders : List Order) → AreOrders tree orders → AllByRecursion (SpeaksAsSpelled tree) orders
+
+-- each command to which the bytes of a patch come speaks of the patterns that texts of the node spell
+abbrev pub TextsSpeakAsSpelled : Type 0
+TextsSpeakAsSpelled = (bytes : List ℕ) (orders : List Order) → IsReadAs bytes (commanded orders) → Spelling bytes (λ tree. AllByRecursion (SpeaksAsSpelled tree) orders)

@@ -2,19 +2,19 @@ ghost use Rattle.glob_select.specs.Items.{Item};
 ghost use Rattle.glob_select.specs.Reading.{alternatives_of};
 ghost use Rattle.glob_select.specs.Refusals.{IsPattern};
 ghost use Rattle.glob_select.specs.Spelling.{SpellsPattern};
-ghost use Rattle.std.specs.Prelude.{◌≡◌, ◌↔◌, ℕ, Bool, true, List, [], Some, codes};
-ghost use Rattle.patch_text.specs.Contents.{IsContent, IsLastValue};
+ghost use Rattle.std.specs.Prelude.{◌≡◌, ◌↔◌, ℕ, Bool, List, [], Some, codes};
+ghost use Rattle.patch_text.specs.Contents.{IsContent, IsLastValue, IsReadLast};
 ghost use Rattle.patch_text.specs.FlowCollections.{IsFlowList, IsFlowMapping};
 ghost use Rattle.patch_text.specs.Lines.{Says};
 ghost use Rattle.patch_text.specs.Parts.{BeginsWith};
 ghost use Rattle.patch_text.specs.PlainScalars.{BeginsWithPlain, IsPlain};
-ghost use Rattle.patch_text.specs.SpokenPatterns.{CommandsSpeakAsSpelled};
+ghost use Rattle.patch_text.specs.SpokenPatterns.{CommandsSpeakAsSpelled, TextsSpeakAsSpelled};
 ghost use Rattle.text_scan.specs.Fronts.{rest_of};
 ghost use Rattle.yaml_block.specs.Contents.{content_at};
 ghost use Rattle.yaml_block.specs.Lines.{said_at};
 ghost use Rattle.yaml_block.specs.Scalars.{plain_at};
-ghost use Rattle.yaml_block.specs.Spaces.{ends, is_space};
-ghost use Rattle.yaml_block.specs.Values.{mapping_at, sequence_at, value_at};
+ghost use Rattle.yaml_block.specs.Spaces.{is_space};
+ghost use Rattle.yaml_block.specs.Values.{mapping_at, sequence_at};
 ghost use Rattle.yaml_block.specs.declared.content.Content.{Content};
 ghost use Rattle.yaml_block.specs.declared.line.Said.{Said};
 ghost use Rattle.yaml_block.specs.declared.scalar.Place.{Place};
@@ -47,8 +47,7 @@ pub fn flow_mapping_law()
 /// Behind spaces a value is read, and nothing that counts is left, exactly where the text is spaces,
 /// the value, spaces, and nothing or a comment.
 pub fn value_law()
-    ensures { (text : List ℕ) (value : Value) →
-        ((rest : List ℕ) × (value_at (rest_of is_space text) ≡ Some (value, rest)) × (ends rest ≡ true)) ↔ IsLastValue value text }
+    ensures { (text : List ℕ) (value : Value) → IsReadLast value text ↔ IsLastValue value text }
 {}
 
 /// A text that doesn't begin with a space is read as this content of a line exactly where it is that
@@ -74,7 +73,8 @@ pub fn pattern_law()
 
 /// Each command of a patch speaks of the patterns that texts of the patch spell: its parents are
 /// spelled by the keys that lead to its mapping, and the pattern of what it does by a text of that
-/// mapping, on the line of the command.
+/// mapping, on the line of the command. So do the commands to which the bytes of a patch come.
 pub fn spoken_law()
-    ensures { CommandsSpeakAsSpelled }
+    ensures commands { CommandsSpeakAsSpelled }
+    ensures bytes { TextsSpeakAsSpelled }
 {}

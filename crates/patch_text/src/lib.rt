@@ -1,6 +1,6 @@
-// What the text of a patch is, as its format says it: plain scalars, flow collections, and what a line says, as relations between a text
-// and what it means; and the laws that block text is read so, both ways, and that commands speak of the patterns that texts spell.
-// Definitions and laws alone.
+// What the text of a patch is, as its format says it: plain scalars, flow collections and what a line
+// says, as relations of a text. Laws: block text is read so, both ways, and the commands of a patch
+// speak of the patterns that its texts spell. Definitions and laws alone.
 #![tactic(auto)]
 
 mod laws;
