@@ -8,3 +8,4 @@ pub mod Contents
 pub mod Lines
 pub mod SpokenPatterns
 pub mod WorkedTexts
+pub mod CutLines

@@ -4,4 +4,5 @@ pub mod Scalars
 pub mod FlowCollections
 pub mod Contents
 pub mod Lines
+pub mod CutLines
 pub mod SpokenPatterns

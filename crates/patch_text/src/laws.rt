@@ -4,6 +4,7 @@ ghost use Rattle.glob_select.specs.Refusals.{IsPattern};
 ghost use Rattle.glob_select.specs.Spelling.{SpellsPattern};
 ghost use Rattle.std.specs.Prelude.{◌≡◌, ◌↔◌, ℕ, Bool, List, [], Some, codes};
 ghost use Rattle.patch_text.specs.Contents.{IsContent, IsLastValue, IsReadLast};
+ghost use Rattle.patch_text.specs.CutLines.{AreLines};
 ghost use Rattle.patch_text.specs.FlowCollections.{IsFlowList, IsFlowMapping};
 ghost use Rattle.patch_text.specs.Lines.{Says};
 ghost use Rattle.patch_text.specs.Parts.{BeginsWith};
@@ -11,7 +12,7 @@ ghost use Rattle.patch_text.specs.PlainScalars.{BeginsWithPlain, IsPlain};
 ghost use Rattle.patch_text.specs.SpokenPatterns.{CommandsSpeakAsSpelled, TextsSpeakAsSpelled};
 ghost use Rattle.text_scan.specs.Fronts.{rest_of};
 ghost use Rattle.yaml_block.specs.Contents.{content_at};
-ghost use Rattle.yaml_block.specs.Lines.{said_at};
+ghost use Rattle.yaml_block.specs.Lines.{raw_lines, said_at};
 ghost use Rattle.yaml_block.specs.Scalars.{plain_at};
 ghost use Rattle.yaml_block.specs.Spaces.{is_space};
 ghost use Rattle.yaml_block.specs.Values.{mapping_at, sequence_at};
@@ -55,6 +56,12 @@ pub fn value_law()
 pub fn content_law()
     ensures { (text : List ℕ) (content : Content) →
         (¬ BeginsWith (codes " ") text) → (content_at text ≡ Some content) ↔ IsContent content text }
+{}
+
+/// A text is cut into these lines exactly where it is these lines, with a line feed behind each but
+/// the last; a carriage return before a line feed is no part of a line.
+pub fn cut_law()
+    ensures { (text : List ℕ) (lines : List (List ℕ)) → (raw_lines text ≡ lines) ↔ AreLines lines text }
 {}
 
 /// A line is read as saying this exactly where it says it: nothing, the mark `---` before all other

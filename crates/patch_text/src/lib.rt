@@ -6,6 +6,6 @@
 mod laws;
 
 pub use laws::{
-    content_law, flow_list_law, flow_mapping_law, line_law, pattern_law, plain_law, spoken_law,
-    value_law,
+    content_law, cut_law, flow_list_law, flow_mapping_law, line_law, pattern_law, plain_law,
+    spoken_law, value_law,
 };
