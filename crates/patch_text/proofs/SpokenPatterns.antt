@@ -40,9 +40,9 @@ pattern_is text alternatives is = subst (λ (a : List (List Item)). SpellsPatter
 
 -- ---- keys that lead, one more
 
-more_lead : (keys : List (List ℕ)) (tree : Tree) (named : EntryTrees) (line : ℕ) (key : List ℕ) (inside : EntryTrees) → LeadTo keys tree named → HasEntry named line key (mapping inside) → LeadTo (keys ++ key ∷ []) tree inside
-more_lead [] tree named line key inside lead has = (line, mapping inside, subst (λ (t : Tree). HasEntry (entries_in t) line key (mapping inside)) (sym lead) has, refl)
-more_lead (first ∷ keys) tree named line key inside lead has = (lead.0, lead.1, lead.2, more_lead keys lead.1 named line key inside lead.3 has)
+more_lead : (keys : List (List ℕ)) (tree : Tree) (named : EntryTrees) (line : ℕ) (key : List ℕ) (inside : EntryTrees) → LeadTo keys tree named → HasEntry named line key (mapping inside) → key_word key ≡ Pattern → LeadTo (keys ++ key ∷ []) tree inside
+more_lead [] tree named line key inside lead has is = (line, mapping inside, subst (λ (t : Tree). HasEntry (entries_in t) line key (mapping inside)) (sym lead) has, is, refl)
+more_lead (first ∷ keys) tree named line key inside lead has is = (lead.0, lead.1, lead.2, lead.3, more_lead keys lead.1 named line key inside lead.4 has is)
 
 more_spelled : (patterns : List PatternItems) (keys : List (List ℕ)) (pattern : PatternItems) (key : List ℕ) → AreSpelled patterns keys → SpellsPattern pattern key → AreSpelled (patterns ++ pattern ∷ []) (keys ++ key ∷ [])
 more_spelled [] [] pattern key spelled one = (one, tt)
@@ -185,12 +185,12 @@ module _ (root : Tree) where
 
     -- ---- a key that opens
 
-    at_opened : (kind : KeyWord) (line : ℕ) (key : List ℕ) (tree : Tree) (inside : List Order) → HasEntry named line key tree → key_word key ≡ kind → (IsPattern key → AllMet (opened_demands line tree) → All inside)
+    at_opened : (kind : KeyWord) (line : ℕ) (key : List ℕ) (tree : Tree) (inside : List Order) → HasEntry named line key tree → key_word key ≡ kind → (key_word key ≡ Pattern → IsPattern key → AllMet (opened_demands line tree) → All inside)
         → AllMet (opened_part kind line key tree) → All (opened_at kind parents line key inside)
     at_opened (Command word) line key tree inside has is below met = tt
     at_opened Ignored line key tree inside has is below met = tt
     at_opened Unknown line key tree inside has is below met = tt
-    at_opened Pattern line key tree inside has is below met = (said line (opens (alternatives_of key)) (key, (tree, has, is), pattern_spelled key met.0), below met.0 met.1)
+    at_opened Pattern line key tree inside has is below met = (said line (opens (alternatives_of key)) (key, (tree, has, is), pattern_spelled key met.0), below is met.0 met.1)
 
   -- ---- mappings in mappings
 
@@ -208,12 +208,12 @@ module _ (root : Tree) where
         (met_right (entry_demands (key_word key) device line key tree (opened_demands line tree)) (mapping_demands device others) met))
 
     below_spelled : (keys : List (List ℕ)) (named : EntryTrees) (lead : LeadTo keys root named) (parents : List PatternItems) (spelled : AreSpelled parents keys) (line : ℕ) (key : List ℕ) (tree : Tree)
-        → HasEntry named line key tree → IsPattern key → AllMet (opened_demands line tree) → All (orders_below (parents ++ alternatives_of key ∷ []) tree)
-    below_spelled keys named lead parents spelled line key nothing has is met = tt
-    below_spelled keys named lead parents spelled line key (scalar text) has is met = tt
-    below_spelled keys named lead parents spelled line key (list items) has is met = tt
-    below_spelled keys named lead parents spelled line key (mapping inside) has is met =
-        let lead' = more_lead keys root named line key inside lead has in
+        → HasEntry named line key tree → key_word key ≡ Pattern → IsPattern key → AllMet (opened_demands line tree) → All (orders_below (parents ++ alternatives_of key ∷ []) tree)
+    below_spelled keys named lead parents spelled line key nothing has opens_it is met = tt
+    below_spelled keys named lead parents spelled line key (scalar text) has opens_it is met = tt
+    below_spelled keys named lead parents spelled line key (list items) has opens_it is met = tt
+    below_spelled keys named lead parents spelled line key (mapping inside) has opens_it is met =
+        let lead' = more_lead keys root named line key inside lead has opens_it in
         let spelled' = more_spelled parents keys (alternatives_of key) key spelled (pattern_spelled key is) in
         let parents' = parents ++ alternatives_of key ∷ [] in
         both (own_orders false parents' inside) (opened_orders parents' inside)

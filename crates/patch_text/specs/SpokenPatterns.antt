@@ -24,10 +24,11 @@ abbrev pub HasItem : ItemTrees → ℕ → Tree → Type 0
 HasItem no_items line tree = ⊥
 HasItem (item number inside others) line tree = ((number ≡ line) × (inside ≡ tree)) ⊎ HasItem others line tree
 
--- the keys lead from mapping to mapping, from the first to this one
+-- the keys, none of which is a command's, lead from mapping to mapping, from the first to this one
 abbrev pub LeadTo : List (List ℕ) → Tree → EntryTrees → Type 0
 LeadTo [] tree named = tree ≡ mapping named
-LeadTo (key ∷ keys) tree named = (line : ℕ) × (inside : Tree) × HasEntry (entries_in tree) line key inside × LeadTo keys inside named
+LeadTo (key ∷ keys) tree named =
+    (line : ℕ) × (inside : Tree) × HasEntry (entries_in tree) line key inside × (key_word key ≡ Pattern) × LeadTo keys inside named
 
 -- each pattern is spelled by the key in its place
 abbrev pub AreSpelled : List PatternItems → List (List ℕ) → Type 0
