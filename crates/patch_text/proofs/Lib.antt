@@ -1,0 +1,11 @@
+pub mod Texts
+pub mod Ends
+pub mod Plain
+pub mod Scalars
+pub mod Flow
+pub mod Values
+pub mod Contents
+pub mod Lines
+pub mod SpokenPatterns
+pub mod WorkedTexts
+pub mod CutLines
