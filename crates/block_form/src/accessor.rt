@@ -5,30 +5,29 @@ use crate::child::Child;
 use crate::field::element;
 use frag_tree::{Access, Body};
 use pac_base::NoMemory;
-use std::alloc::Global;
 
 /// The accessor of a child, which has a field in the struct or not.
-pub(crate) fn access(alloc: Global, taken: bool, child: &Child) -> Result<Access, NoMemory>
+pub(crate) fn access(taken: bool, child: &Child) -> Result<Access, NoMemory>
     ensures { IfOk result (λ access. access ≡ access_of taken child.now) }
 {
     Ok(Access {
-        name: child.name.copy(alloc)?,
+        name: child.name.copy()?,
         is_indexed: child.array.is_some(),
-        element: element(alloc, child)?,
-        body: body(alloc, taken, child)?,
+        element: element(child)?,
+        body: body(taken, child)?,
     })
 }
 
-fn body(alloc: Global, taken: bool, child: &Child) -> Result<Body, NoMemory>
+fn body(taken: bool, child: &Child) -> Result<Body, NoMemory>
     ensures { IfOk result (λ body. body ≡ body_of taken child.now.name child.now.offset child.now.array) }
 {
     let offset = child.offset;
     match (taken, child.array) {
         (true, None) => Ok(Body::Field {
-            field: child.name.copy(alloc)?,
+            field: child.name.copy()?,
         }),
         (true, Some(_array)) => Ok(Body::Member {
-            field: child.name.copy(alloc)?,
+            field: child.name.copy()?,
         }),
         (false, None) => Ok(Body::At { offset }),
         (false, Some(array)) => Ok(Body::AtIndex {

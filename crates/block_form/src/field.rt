@@ -40,10 +40,10 @@ pub(crate) fn child_end(child: &Child) -> u128
 }
 
 /// The element of a child: its module, as a register or as a block.
-pub(crate) fn element(alloc: Global, child: &Child) -> Result<Element, NoMemory>
+pub(crate) fn element(child: &Child) -> Result<Element, NoMemory>
     ensures { IfOk result (λ element. element ≡ element_of child.now) }
 {
-    let module = child.name.copy(alloc)?;
+    let module = child.name.copy()?;
     match child.kind {
         ChildKind::Register => Ok(Element::Register { module }),
         ChildKind::Block => Ok(Element::Block { module }),
@@ -51,11 +51,11 @@ pub(crate) fn element(alloc: Global, child: &Child) -> Result<Element, NoMemory>
 }
 
 /// The field of a child in the struct.
-pub(crate) fn child_field(alloc: Global, child: &Child) -> Result<StructField, NoMemory>
+pub(crate) fn child_field(child: &Child) -> Result<StructField, NoMemory>
     ensures { IfOk result (λ field. field ≡ field_of child.now) }
 {
-    let name = child.name.copy(alloc)?;
-    let element = element(alloc, child)?;
+    let name = child.name.copy()?;
+    let element = element(child)?;
     Ok(StructField {
         name,
         holds: held(element, child.array),

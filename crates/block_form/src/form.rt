@@ -36,7 +36,7 @@ pub fn block_form(alloc: Global, children: &[Child]) -> Result<Form, NoMemory>
     let mut accessors = Seq::new(alloc);
     for child in children {
         numbers(child);
-        accessors.push(access(alloc, placing.has(child), child)?)?;
+        accessors.push(access(placing.has(child), child)?)?;
     }
     Ok(Form {
         fields: placing.fields,

@@ -50,7 +50,7 @@ impl<'a> Placing<'a> {
         ensures { OnOk result (Puts self.old self.new child.now) }
     {
         self.put_gap(alloc, child)?;
-        self.fields.push(child_field(alloc, child)?)?;
+        self.fields.push(child_field(child)?)?;
         self.end = child_end(child);
         self.align = child.align.max(self.align);
         self.names.insert(child.name.bytes())?;

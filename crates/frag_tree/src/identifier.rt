@@ -6,24 +6,26 @@ use pac_base::NoMemory;
 use rust_names::is_identifier;
 use std::alloc::{AllocError, Global};
 use std::marker::Model;
+use std::rc::RcSlice;
 use thiserror::Error;
 
 /// A name of the crate text or of a script: a letter or `_`, then letters, digits and `_`. It isn't
-/// `_` alone and no keyword of Rust. Contracts see it as the list of its bytes.
+/// `_` alone and no keyword of Rust. Contracts see it as the list of its bytes. Copies share them.
 #[derive(Debug, Drop)]
 pub struct Identifier {
-    bytes: Vec<u8>,
+    bytes: RcSlice<u8>,
 }
 
 impl Model for Identifier {
     ghost use Rattle.std.specs.Prelude.{List, ℕ};
     ghost use Rattle.rust_names.specs.Identifiers.{IsIdentifier};
+    ghost use Rattle.std.specs.Rc.{rc_slice_items};
 
     ghost Value = { List ℕ };
 
-    ghost view = { λ identifier. identifier.bytes.items };
+    ghost view = { λ identifier. rc_slice_items identifier.bytes };
 
-    ghost invariant = { λ identifier. IsIdentifier identifier.bytes.items };
+    ghost invariant = { λ identifier. IsIdentifier (rc_slice_items identifier.bytes) };
 }
 
 /// Why bytes became no identifier.
@@ -55,7 +57,7 @@ impl Identifier {
             return Err(IdentifierFault::NotAnIdentifier);
         }
         Ok(Identifier {
-            bytes: Vec::from_slice(alloc, bytes)?,
+            bytes: RcSlice::from_slice(alloc, bytes)?,
         })
     }
 
@@ -65,15 +67,17 @@ impl Identifier {
         ensures { IfOk result (λ identifier. identifier ≡ bytes.now) }
     {
         Ok(Identifier {
-            bytes: Vec::from_slice(alloc, bytes)?,
+            bytes: RcSlice::from_slice(alloc, bytes)?,
         })
     }
 
-    /// The same identifier once more.
-    pub fn copy(&self, alloc: Global) -> Result<Identifier, NoMemory>
+    /// The same identifier once more, which takes no memory.
+    pub fn copy(&self) -> Result<Identifier, NoMemory>
         ensures { IfOk result (λ identifier. identifier ≡ self.now) }
     {
-        Identifier::known(alloc, self.bytes())
+        Ok(Identifier {
+            bytes: self.bytes.clone()?,
+        })
     }
 
     /// The same bytes, which are an identifier.

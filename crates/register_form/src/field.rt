@@ -5,7 +5,6 @@ ghost use Rattle.register_form.specs.Fields.{HasBits, is_bit, least_width, read_
 use crate::register::{Field, FieldArray};
 use frag_tree::{ReadForm, Reader, Spot, WriteForm, Writer};
 use pac_base::{NoMemory, Width};
-use std::alloc::Global;
 
 /// The least of the four types that holds so many bits.
 pub(crate) fn least_width(bits: u64) -> Width
@@ -78,24 +77,24 @@ fn write_form(field: &Field) -> WriteForm
 }
 
 /// The call that reads a field.
-pub(crate) fn reader(alloc: Global, field: &Field) -> Result<Reader, NoMemory>
+pub(crate) fn reader(field: &Field) -> Result<Reader, NoMemory>
     requires { HasBits field.now }
     ensures { IfOk result (λ reader. reader ≡ reader_of field.now) }
 {
     Ok(Reader {
-        name: field.name.copy(alloc)?,
-        marker: field.marker.copy(alloc)?,
+        name: field.name.copy()?,
+        marker: field.marker.copy()?,
         form: read_form(field),
     })
 }
 
 /// The call that writes a field.
-pub(crate) fn writer(alloc: Global, field: &Field) -> Result<Writer, NoMemory>
+pub(crate) fn writer(field: &Field) -> Result<Writer, NoMemory>
     ensures { IfOk result (λ writer. writer ≡ writer_of field.now) }
 {
     Ok(Writer {
-        name: field.name.copy(alloc)?,
-        marker: field.marker.copy(alloc)?,
+        name: field.name.copy()?,
+        marker: field.marker.copy()?,
         form: write_form(field),
     })
 }

@@ -13,7 +13,7 @@ fn number_calls(alloc: Global, calls: &[NumberCall]) -> Result<Seq<NumberCall>, 
     let mut copied = Seq::new(alloc);
     for call in calls {
         copied.push(NumberCall {
-            name: call.name.copy(alloc)?,
+            name: call.name.copy()?,
             value: call.value,
         })?;
     }
@@ -26,7 +26,7 @@ fn truth_calls(alloc: Global, calls: &[NumberCall]) -> Result<Seq<TruthCall>, No
     let mut made = Seq::new(alloc);
     for call in calls {
         made.push(TruthCall {
-            name: call.name.copy(alloc)?,
+            name: call.name.copy()?,
             value: call.value == 1,
         })?;
     }
@@ -36,7 +36,7 @@ fn truth_calls(alloc: Global, calls: &[NumberCall]) -> Result<Seq<TruthCall>, No
 fn read_values(alloc: Global, field: &Field) -> Result<Values, NoMemory>
     ensures { IfOk result (λ block. block ≡ read_values (is_bit field.now) field.now) }
 {
-    let marker = field.marker.copy(alloc)?;
+    let marker = field.marker.copy()?;
     let calls = field.tests.as_slice();
     if field.bits == 1 {
         return Ok(Values::BitReading {
@@ -54,7 +54,7 @@ fn read_values(alloc: Global, field: &Field) -> Result<Values, NoMemory>
 fn write_values(alloc: Global, field: &Field) -> Result<Values, NoMemory>
     ensures { IfOk result (λ block. block ≡ write_values (is_bit field.now) field.now) }
 {
-    let marker = field.marker.copy(alloc)?;
+    let marker = field.marker.copy()?;
     let calls = field.sets.as_slice();
     if field.bits == 1 {
         return Ok(Values::BitWriting {

@@ -17,7 +17,7 @@ fn markers(alloc: Global, fields: &[Field]) -> Result<Seq<Identifier>, NoMemory>
 {
     let mut made = Seq::new(alloc);
     for field in fields {
-        made.push(field.marker.copy(alloc)?)?;
+        made.push(field.marker.copy()?)?;
     }
     Ok(made)
 }
@@ -29,7 +29,7 @@ fn readers(alloc: Global, fields: &[Field]) -> Result<Seq<Reader>, NoMemory>
     let mut made = Seq::new(alloc);
     for field in fields {
         if field.readable {
-            made.push(reader(alloc, field)?)?;
+            made.push(reader(field)?)?;
         }
     }
     Ok(made)
@@ -41,7 +41,7 @@ fn writers(alloc: Global, fields: &[Field]) -> Result<Seq<Writer>, NoMemory>
     let mut made = Seq::new(alloc);
     for field in fields {
         if field.writable {
-            made.push(writer(alloc, field)?)?;
+            made.push(writer(field)?)?;
         }
     }
     Ok(made)
@@ -97,7 +97,7 @@ fn module(alloc: Global, register: &Register) -> Result<RegisterModule, NoMemory
 {
     let fields = register.fields.as_slice();
     Ok(RegisterModule {
-        name: register.name.copy(alloc)?,
+        name: register.name.copy()?,
         word: register.word,
         readable: register.readable,
         writable: register.writable.then_some(masks(register)),
