@@ -109,11 +109,5 @@ pub fn modify(
         keys,
         name: &name,
     };
-    walk(
-        alloc,
-        &modifying,
-        parents,
-        total,
-        &mut device.peripherals,
-    )
+    walk(alloc, &modifying, parents, total, &mut device.peripherals)
 }
