@@ -71,7 +71,7 @@ module _ {M : Type 0} (seen : M → Seen) where
   -- the parted children count as all of them
   pub parted-counted : {Z : Type 0} (test : Sibling × M → Bool) (children : List (Sibling × M)) (parted : Parted M) (result : Result (Vec (Sibling × M) Z) PatchFault) (before after : ℕ) → IsParted test children parted
       → MakesCounted seen result before (parted.members.items ++ parted.others.items) after → MakesCounted seen result before children after
-  parted-counted test children parted (Ok made) before after is recounted others e = recounted others (e ∙ ap (λ (n : ℕ). others + n) (sym same))
+  parted-counted test children parted (Ok made) before after is recounted = λ others e. recounted others (e ∙ ap (λ (n : ℕ). others + n) (sym same))
     where
       same : elements_in (listed seen (parted.members.items ++ parted.others.items)) ≡ elements_in (listed seen children)
       same =

@@ -43,7 +43,7 @@ impl Counted for Field {
     }
 }
 
-/// A count without so many, which it has.
+/// A count without so many elements, which it has.
 pub fn without(total: u64, gone: u64) -> u64
     ensures less { result ≡ total - gone }
     ensures fits { total ≤ 2 ^ 64 - 1 }
@@ -51,8 +51,8 @@ pub fn without(total: u64, gone: u64) -> u64
     total.saturating_sub(gone)
 }
 
-// One more with those below it; 2^64 - 1 where there are more.
-fn one_more(total: u64, below: u64) -> u64
+/// A count with one more element and those below it; 2^64 - 1 where there are more.
+pub fn one_more(total: u64, below: u64) -> u64
     ensures { result ≡ told_count (total + told_count (1 + below)) }
 {
     total.saturating_add(1_u64.saturating_add(below))

@@ -8,7 +8,7 @@ mod edit;
 mod opening;
 mod walking;
 
-pub use counting::without;
+pub use counting::{one_more, without};
 pub use deletion::delete;
 pub use edit::Edit;
 pub use opening::{matches_item, matches_one, open};

@@ -15,7 +15,7 @@ loop-member-preserved g c = record {
   sum =
       counted_on c.one_more-total.result c.loop-member.total c.below.result (told_count (elements_in (listed g.M.Member.seen c.args.members.now))) (under_key g.M.Member.seen c.member-item.result).0 (under_key g.M.Member.seen c.member-item.result).1
       (map (under_key g.M.Member.seen) (drop (c.loop-member.member-index + 1) c.args.members.now)) (map (under_key g.M.Member.seen) (drop c.loop-member.member-index c.args.members.now))
-      (known-counted _ _ (g.M.Member.known c.member-item.result.1))
+      (known-counted (g.M.Member.seen c.member-item.result.1).0 c.member-item.result.0 (g.M.Member.known c.member-item.result.1))
       (ap (map (under_key g.M.Member.seen)) (drop_more c.args.members.now c.loop-member.member-index c.member-item.result c.loop-member-test.true ∙ ap (λ x. x ∷ drop (c.loop-member.member-index + 1) c.args.members.now) (sym c.member-item.is)))
       c.below.ensures c.one_more-total.ensures c.loop-member.invariant.sum;
   fits = told-fits c.one_more-total.result _ c.one_more-total.ensures;
