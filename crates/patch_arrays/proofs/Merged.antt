@@ -1,12 +1,11 @@
 -- An array counts as its first member: the others are gone.
-use Rattle.std.proofs.Common.{◌≡◌, ◌≤◌, ℕ, ◌+◌, ◌-◌, ◌^◌, min, Bool, true, not, List, [], ◌∷◌, ◌++◌, map, filter, take, drop, IfOk, Result, Ok, Err, Vec, refl, sym, ap, ap₂, ◌∙◌, subst, arith}
+use Rattle.std.proofs.Common.{◌≡◌, ◌≤◌, ℕ, ◌+◌, ◌-◌, ◌^◌, min, Bool, true, List, [], ◌∷◌, ◌++◌, map, take, drop, Result, Ok, Err, Vec, refl, sym, ap, ap₂, ◌∙◌, arith}
 use Rattle.std.proofs.lemmas.List.{map-append, take-append-drop}
 use Rattle.patch_edits.specs.Edits.{Recounted}
-use Rattle.patch_edits.specs.Visits.{Below}
 use Rattle.patch_sem.specs.Arrays.{ordered_by}
 use Rattle.patch_sem.specs.declared.fault.PatchFault.{PatchFault}
 use Rattle.patch_sem.specs.Selecting.{is_patched}
-use Rattle.patch_arrays.proofs.Fewer.{counted, total, total-append, total-ordered, weight}
+use Rattle.patch_arrays.proofs.Fewer.{counted, total, total-append, total-ordered}
 use Rattle.patch_arrays.specs.Arranging.{Element, array_of, offset_of}
 use Rattle.patch_arrays.specs.declared.parting.Parted.{Parted}
 use Rattle.patch_arrays.specs.Makings.{IsArranged, MakesCounted, behind, capped}
@@ -16,8 +15,7 @@ use Rattle.patch_edits.proofs.Totals.{total-parts}
 use Rattle.svd_model.specs.Counting.{elements_in, told_count}
 use Rattle.svd_model.specs.declared.sibling.Sibling.{Sibling}
 use Rattle.svd_model.specs.Facts.{is_counted}
-use Rattle.svd_model.specs.Keys.{Key}
-use Rattle.svd_model.specs.Steps.{Kind, Step, peripheral, cluster, register, field, set, value}
+use Rattle.svd_model.specs.Steps.{Kind, peripheral, cluster, register, field, set, value}
 use Rattle.svd_model.specs.Trees.{step_of}
 use Rattle.svd_rows.specs.Forest.{siblings}
 

@@ -1,5 +1,5 @@
 -- The running count of all elements, while some of them are edited.
-use Rattle.std.proofs.Common.{◌≡◌, ◌≤◌, ℕ, ◌+◌, ◌-◌, ◌^◌, min, Bool, cond, not, List, map, filter, set, slice_get, IfOk, OnOk, Option, Some, Result, Ok, Err, refl, sym, ap, ◌∙◌, arith}
+use Rattle.std.proofs.Common.{◌≡◌, ◌≤◌, ℕ, ◌+◌, ◌-◌, ◌^◌, min, Bool, cond, not, List, map, filter, set, slice_get, IfOk, OnOk, Option, Some, Result, Ok, Err, sym, ap, ◌∙◌, arith}
 use Rattle.patch_sem.specs.declared.fault.PatchFault.{PatchFault}
 use Rattle.patch_sem.specs.Steps.{Outcome}
 use Rattle.patch_edits.proofs.Contexts.{tree_with}

@@ -1,4 +1,4 @@
-use Rattle.std.proofs.Common.{◌≡◌, ◌+◌, filter, map, arith, ap, sym, zero-add, ◌∙◌}
+use Rattle.std.proofs.Common.{filter, map, arith, ap, sym, zero-add, ◌∙◌}
 use Rattle.glob_select.specs.Matching.{matches}
 use Rattle.patch_edits.proofs.Deleting.{is_matched}
 use Rattle.patch_edits.proofs.Totals.{counted-none, counted-one, counted-past}

@@ -1,4 +1,4 @@
-use Rattle.std.proofs.Common.{◌≡◌, ◌+◌, ◌∷◌, List, drop, filter, map, arith, ap, sym, zero-add, ◌∙◌}
+use Rattle.std.proofs.Common.{◌≡◌, ◌+◌, ◌∷◌, drop, filter, map, arith, ap, sym, zero-add, ◌∙◌}
 use Rattle.std.proofs.lemmas.List.{drop_all, drop_more}
 use Rattle.glob_select.specs.Matching.{matches}
 use Rattle.patch_edits.proofs.Deleting.{is_item_matched}

@@ -22,4 +22,4 @@ returns-clause-edited c =
 
 pub returns-clause-counted : goal.returns-clause-counted
 returns-clause-counted c =
-    recounts-even below_register (changed_with c.args.self.now.line c.args.self.now.pattern.now c.args.self.now.keys.now c.args.self.now.name.now) (changing-evens c.args.self.now.line c.args.self.now.pattern.now c.args.self.now.keys.now c.args.self.now.name.now) (Some register) c.args.total.now c.args.fields.now.entries c.rename_entries.new.entries.entries c.rename_entries.result (returns-clause-edited c)
+    recounts-even below_register (changed_with c.args.self.now.line c.args.self.now.pattern.now c.args.self.now.keys.now c.args.self.now.name.now) (changing-evens c.args.self.now.line c.args.self.now.pattern.now c.args.self.now.keys.now c.args.self.now.name.now) (Some register) c.args._total.now c.args.fields.now.entries c.rename_entries.new.entries.entries c.rename_entries.result (returns-clause-edited c)

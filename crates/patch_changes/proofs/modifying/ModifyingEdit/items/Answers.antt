@@ -35,4 +35,4 @@ returns-clause-in_cluster c =
 
 pub returns-clause-counted : goal.returns-clause-counted
 returns-clause-counted c =
-    recounts-even below_block (changed_with c.args.self.now.line c.args.self.now.pattern.now c.args.self.now.keys.now c.args.self.now.name.now) (changing-evens c.args.self.now.line c.args.self.now.pattern.now c.args.self.now.keys.now c.args.self.now.name.now) (Some peripheral) c.args.total.now c.args.items.now.items c.rename_items.new.items.items c.rename_items.result (returns-clause-in_peripheral c)
+    recounts-even below_block (changed_with c.args.self.now.line c.args.self.now.pattern.now c.args.self.now.keys.now c.args.self.now.name.now) (changing-evens c.args.self.now.line c.args.self.now.pattern.now c.args.self.now.keys.now c.args.self.now.name.now) (Some peripheral) c.args._total.now c.args.items.now.items c.rename_items.new.items.items c.rename_items.result (returns-clause-in_peripheral c)

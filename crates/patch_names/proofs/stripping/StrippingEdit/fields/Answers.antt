@@ -15,4 +15,4 @@ returns-clause-edited c =
 
 pub returns-clause-counted : goal.returns-clause-counted
 returns-clause-counted c =
-    recounts-even below_register (stripped_below c.args.self.now.line c.args.self.now.prefix.now) (strip-evens c.args.self.now.line c.args.self.now.prefix.now) (Some register) c.args.total.now c.args.fields.now.entries c.strip_map.new.entries.entries c.strip_map.result (returns-clause-edited c)
+    recounts-even below_register (stripped_below c.args.self.now.line c.args.self.now.prefix.now) (strip-evens c.args.self.now.line c.args.self.now.prefix.now) (Some register) c.args._total.now c.args.fields.now.entries c.strip_map.new.entries.entries c.strip_map.result (returns-clause-edited c)

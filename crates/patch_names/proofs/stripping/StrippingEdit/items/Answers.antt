@@ -21,4 +21,4 @@ returns-clause-in_cluster c =
 
 pub returns-clause-counted : goal.returns-clause-counted
 returns-clause-counted c =
-    recounts-even below_block (stripped_below c.args.self.now.line c.args.self.now.prefix.now) (strip-evens c.args.self.now.line c.args.self.now.prefix.now) (Some peripheral) c.args.total.now c.args.items.now.items c.strip_list.new.items.items c.strip_list.result (returns-clause-in_peripheral c)
+    recounts-even below_block (stripped_below c.args.self.now.line c.args.self.now.prefix.now) (strip-evens c.args.self.now.line c.args.self.now.prefix.now) (Some peripheral) c.args._total.now c.args.items.now.items c.strip_list.new.items.items c.strip_list.result (returns-clause-in_peripheral c)
