@@ -24,7 +24,7 @@ pub(crate) struct Deletion<'a> {
     pub(crate) pattern: &'a Pattern,
 }
 
-// Leaves the entries whose names the pattern doesn't match; whether that are all.
+// Leaves the entries whose names the pattern doesn't match, and counts without the others; whether that are all.
 fn keep_others<V: Counted>(
     pattern: &Pattern,
     total: &mut u64,
@@ -40,7 +40,7 @@ fn keep_others<V: Counted>(
     entries.len() == before
 }
 
-// Leaves the items whose names the pattern doesn't match; whether that are all.
+// Leaves the items whose names the pattern doesn't match, and counts without the others; whether that are all.
 fn keep_other_items(pattern: &Pattern, total: &mut u64, items: &mut Vec<Item>) -> bool
     ensures kept { items.new.items ≡ filter (λ item. not (matches pattern.now item.key.name)) items.old.items }
     ensures all { IsTrue result ↔ length items.new.items ≡ length items.old.items }
