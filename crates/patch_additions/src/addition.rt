@@ -1,6 +1,6 @@
-ghost use Rattle.std.specs.Prelude.{◌≡◌, ◌⊎◌, ◌||◌, [], ◌∷◌, IfOk, MatchResult, is_some, map};
+ghost use Rattle.std.specs.Prelude.{◌≡◌, ◌⊎◌, ◌||◌, [], ◌∷◌, IfOk, MatchResult, OnOk, is_some, map};
 ghost use Rattle.patch_additions.specs.declared.addition.Unmade.TheVariants as unmade;
-ghost use Rattle.patch_edits.specs.Commands.{IsApplied, order_at};
+ghost use Rattle.patch_edits.specs.Commands.{IsApplied, IsCounted, order_at};
 ghost use Rattle.patch_additions.specs.Additions.{Builds, BuildsFields, BuildsRegisters, IsLacking, IsRefusal, built_child, key_text};
 ghost use Rattle.patch_model.specs.Acts.{addition_under, added_of, adds_one};
 ghost use Rattle.patch_ready.specs.Ready.{AreApart};
@@ -286,22 +286,24 @@ impl<'a> Maker for Adding<'a> {
 /// a register in a peripheral or cluster, a field in a register; with the registers and fields within it (svdtools' `_add`). The
 /// first fault of the first parent that has one: `NoMatch` in a field, `AddExists` where a child has the name, `Incomplete` with the
 /// first key that is missing (`baseAddress`, `addressOffset`, or `bitOffset` for the place of a field without `derivedFrom`),
-/// `TooMany` where more than 1,048,576 elements would be left. The condition is that elements which are added side by side have names
-/// of their own. What is left after a refusal isn't said.
+/// `TooMany` where more than 1,048,576 elements would be left. `total` is how many elements the device has, before and after. The
+/// condition is that elements which are added side by side have names of their own. What is left after a refusal isn't said.
 pub fn add(
     alloc: Global,
     line: u32,
     parents: &[Pattern],
     addition: &Addition,
+    total: &mut u64,
     device: &mut Device,
 ) -> Result<(), PatchFault>
     requires described { IsDescribed device.old }
+    requires counted { IsCounted device.old total.old }
     requires registers { AreApart (addition_under addition.now).registers }
     requires fields { AreApart (addition_under addition.now).fields }
     ensures applied { IsApplied (order_at line parents.now (adds_one (addition_under addition.now))) (device_rows device.old) (device_rows device.new) result }
     ensures described { IfOk result (λ done. IsDescribed device.new) }
+    ensures counted { OnOk result (IsCounted device.new total.new) }
 {
     let adding = Adding { line, addition };
-    let mut total = device.elements();
-    walk(alloc, &adding, parents, &mut total, &mut device.peripherals)
+    walk(alloc, &adding, parents, total, &mut device.peripherals)
 }

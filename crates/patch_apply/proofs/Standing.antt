@@ -1,7 +1,8 @@
 -- How the commands that are left stand to all commands.
-use Rattle.std.proofs.Common.{◌≡◌, ◌⊎◌, ◌<◌, ◌≤◌, ℕ, ◌+◌, List, ◌∷◌, map, length, drop, get_or, Result, Ok, Err, IsErrAnd, inl, inr, sym, ap, subst, ◌∙◌}
+use Rattle.std.proofs.Common.{◌≡◌, ◌⊎◌, ◌<◌, ◌≤◌, ℕ, ◌+◌, List, ◌∷◌, map, length, drop, get_or, OnOk, Result, Ok, Err, IsErrAnd, inl, inr, sym, ap, subst, ◌∙◌}
 use Rattle.std.proofs.lemmas.List.{drop_all, drop_more}
 use Rattle.patch_apply.specs.Applying.{IsPatched}
+use Rattle.patch_edits.specs.Commands.{AreAsMany, IsCounted}
 use Rattle.patch_model.specs.Acts.{Order, order_of}
 use Rattle.patch_model.specs.declared.act.Command.{Command}
 use Rattle.patch_ready.specs.Ready.{AreReady}
@@ -10,6 +11,7 @@ use Rattle.patch_sem.specs.declared.fault.PatchFault.TheVariants.{Memory}
 use Rattle.patch_sem.specs.Patching.{applied, patched}
 use Rattle.patch_sem.specs.Selecting.{Rows}
 use Rattle.patch_sem.specs.Steps.{Outcome, ◌>>=◌}
+use Rattle.svd_model.specs.declared.device.Device.{Device}
 
 -- the commands that are left are ready, and leave of these rows what all commands leave of the first ones
 pub record Standing (commands : List Command) (first : Rows) (i : ℕ) (here : Rows) : Type 0 where
@@ -48,3 +50,8 @@ module _ (commands : List Command) (first : Rows) (i : ℕ) (here : Rows) (comma
 pub all_done : (commands : List Command) (first : Rows) (i : ℕ) (here : Rows) → length commands ≤ i → Standing commands first i here → patched (map order_of commands) first ≡ Ok here
 unfolding patched
 all_done commands first i here past standing = sym standing.left ∙ ap (λ (rest : List Command). patched (map order_of rest) here) (drop_all i commands past)
+
+-- a command that leaves as many elements leaves the count right
+pub as_many : (old new : Device) (total : ℕ) (result : Result (Unit {0}) PatchFault) → OnOk result (AreAsMany old new) → IsCounted old total → OnOk result (IsCounted new total)
+as_many old new total (Ok done) same counted = same total counted
+as_many old new total (Err fault) same counted = tt

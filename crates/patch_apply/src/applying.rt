@@ -1,6 +1,6 @@
-ghost use Rattle.std.specs.Prelude.{◌≡◌, IfErr, IfOk, Ok, map};
+ghost use Rattle.std.specs.Prelude.{◌≡◌, IfErr, IfOk, OnOk, Ok, map};
 ghost use Rattle.patch_apply.specs.Applying.{IsFaultOf, IsPatched};
-ghost use Rattle.patch_edits.specs.Commands.{IsApplied};
+ghost use Rattle.patch_edits.specs.Commands.{IsApplied, IsCounted};
 ghost use Rattle.patch_model.specs.Acts.{order_of};
 ghost use Rattle.patch_ready.specs.Ready.{AreReady, IsReadyDeed};
 ghost use Rattle.patch_sem.specs.Patching.{patched};
@@ -19,32 +19,52 @@ use patch_sem::PatchFault;
 use std::alloc::Global;
 use svd_model::{Described, Device, Patched};
 
-// One command.
-fn one(alloc: Global, command: &Command, device: &mut Device) -> Result<(), PatchFault>
+// One command. `total` is how many elements the device has, before and after.
+fn one(
+    alloc: Global,
+    command: &Command,
+    total: &mut u64,
+    device: &mut Device,
+) -> Result<(), PatchFault>
     requires described { IsDescribed device.old }
+    requires counted { IsCounted device.old total.old }
     requires ready { IsReadyDeed (order_of command.now).deed }
     ensures applied { IsApplied (order_of command.now) (device_rows device.old) (device_rows device.new) result }
     ensures described { IfOk result (λ done. IsDescribed device.new) }
+    ensures counted { OnOk result (IsCounted device.new total.new) }
 {
     let line = command.line;
     let parents = command.parents.as_slice();
     match &command.act {
-        Act::Open(pattern) => open(alloc, line, parents, pattern, device),
-        Act::Delete(pattern) => delete(alloc, line, parents, pattern, device),
-        Act::Copy { name, from, keys } => {
-            copy(alloc, line, parents, name, from, keys.as_slice(), device)
-        }
-        Act::Modify { target, keys } => {
-            modify(alloc, line, parents, target, keys.as_slice(), device)
-        }
+        Act::Open(pattern) => open(alloc, line, parents, pattern, total, device),
+        Act::Delete(pattern) => delete(alloc, line, parents, pattern, total, device),
+        Act::Copy { name, from, keys } => copy(
+            alloc,
+            line,
+            parents,
+            name,
+            from,
+            keys.as_slice(),
+            total,
+            device,
+        ),
+        Act::Modify { target, keys } => modify(
+            alloc,
+            line,
+            parents,
+            target,
+            keys.as_slice(),
+            total,
+            device,
+        ),
         Act::ModifyDevice(keys) => modify_device(alloc, line, parents, keys.as_slice(), device),
-        Act::Add(addition) => add(alloc, line, parents, addition, device),
-        Act::Strip(prefix) => strip(alloc, line, parents, prefix, device),
-        Act::Array { target, name } => array(alloc, line, parents, target, name, device),
+        Act::Add(addition) => add(alloc, line, parents, addition, total, device),
+        Act::Strip(prefix) => strip(alloc, line, parents, prefix, total, device),
+        Act::Array { target, name } => array(alloc, line, parents, target, name, total, device),
     }
 }
 
-// A copy of the device of a state, after all commands.
+// A copy of the device of a state, after all commands. Its elements are counted once.
 fn applied(alloc: Global, state: &Described, commands: &[Command]) -> Result<Device, PatchFault>
     requires { AreReady (map order_of commands.now) }
     ensures described { IfOk result IsDescribed }
@@ -54,8 +74,9 @@ fn applied(alloc: Global, state: &Described, commands: &[Command]) -> Result<Dev
         Ok(copy) => copy.into_device(),
         Err(NoMemory) => return Err(PatchFault::Memory),
     };
+    let mut total = device.elements();
     for command in commands {
-        one(alloc, command, &mut device)?;
+        one(alloc, command, &mut total, &mut device)?;
     }
     Ok(device)
 }

@@ -45,14 +45,14 @@ gave line pattern name (Some value) f new e = gave-in line pattern name (element
 
 -- ---- counts
 
-abbrev weight : Element → ℕ
+abbrev pub weight : Element → ℕ
 weight e = cond (is_counted e.0) 1 0 + elements_in e.1.below
 
-abbrev total : List Element → ℕ
+abbrev pub total : List Element → ℕ
 total [] = 0
 total (e ∷ all) = weight e + total all
 
-counted : (all : List Element) → elements_in (siblings all) ≡ total all
+pub counted : (all : List Element) → elements_in (siblings all) ≡ total all
 unfolding count siblings
 counted [] = refl
 counted (e ∷ all) = ap (λ (n : ℕ). cond (is_counted e.0) 1 0 + (elements_in e.1.below + n)) (counted all) ∙ sums (cond (is_counted e.0) 1 0) (elements_in e.1.below) (total all)
@@ -60,7 +60,7 @@ counted (e ∷ all) = ap (λ (n : ℕ). cond (is_counted e.0) 1 0 + (elements_in
     sums : (a b c : ℕ) → a + (b + c) ≡ (a + b) + c
     sums a b c = omega arith
 
-total-append : (xs ys : List Element) → total (xs ++ ys) ≡ total xs + total ys
+pub total-append : (xs ys : List Element) → total (xs ++ ys) ≡ total xs + total ys
 total-append [] ys = omega arith
 total-append (x ∷ xs) ys = ap (λ (n : ℕ). weight x + n) (total-append xs ys) ∙ sums (weight x) (total xs) (total ys)
   where
@@ -68,7 +68,7 @@ total-append (x ∷ xs) ys = ap (λ (n : ℕ). weight x + n) (total-append xs ys
     sums a b c = omega arith
 
 -- those that pass, and those that don't
-total-parts : (test : Element → Bool) (all : List Element) → total (filter test all) + total (filter (λ e. not (test e)) all) ≡ total all
+pub total-parts : (test : Element → Bool) (all : List Element) → total (filter test all) + total (filter (λ e. not (test e)) all) ≡ total all
 total-parts test [] = refl
 total-parts test (e ∷ all) = cases (test e) (total-parts test all)
   where
@@ -96,7 +96,7 @@ total-put key e (x ∷ all) = cases (nat_le (key e) (key x)) (total-put key e al
     cases true more = refl
     cases false more = omega (arith, more)
 
-total-ordered : (key : Element → ℕ) (all : List Element) → total (ordered_by key all) ≡ total all
+pub total-ordered : (key : Element → ℕ) (all : List Element) → total (ordered_by key all) ≡ total all
 unfolding ordered_by
 total-ordered key [] = refl
 total-ordered key (e ∷ all) = total-put key e (ordered_by key all) ∙ ap (λ (n : ℕ). weight e + n) (total-ordered key all)

@@ -5,6 +5,7 @@ pub mod Keys
 pub mod Exchanging
 pub mod Agreeing
 pub mod Fewer
+pub mod Merged
 pub mod Keeping
 pub mod Alike
 pub mod Bridging

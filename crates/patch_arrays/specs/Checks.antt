@@ -1,9 +1,11 @@
 -- A check that refuses members, by what is found among them.
-use Rattle.std.specs.Prelude.{◌≡◌, ◌⊎◌, ℕ, Bool, Option, None, Some, option_map, Result, MatchResult}
+use Rattle.std.specs.Prelude.{◌≡◌, ◌⊎◌, ℕ, Bool, List, find, map, Option, None, Some, option_map, Result, MatchResult}
 use Rattle.patch_sem.specs.Arrays.{is_uneven}
 use Rattle.patch_sem.specs.declared.fault.PatchFault.{PatchFault}
 use Rattle.patch_sem.specs.declared.fault.PatchFault.TheVariants.{ArrayUneven, ArrayUnlike, Memory}
-use Rattle.patch_arrays.specs.Arranging.{Element}
+use Rattle.patch_arrays.specs.Arranging.{Element, differs}
+use Rattle.patch_arrays.specs.Members.{Seen, under_key}
+use Rattle.svd_model.specs.declared.sibling.Sibling.{Sibling}
 use Rattle.svd_model.specs.Steps.{Step}
 
 -- what is found is refused
@@ -18,3 +20,8 @@ uneven_fault line pair = ArrayUneven line pair.0.0.name pair.1.0.name
 
 abbrev pub unlike_fault : ℕ → Element → Element → PatchFault
 unlike_fault line first other = ArrayUnlike line first.0.name other.0.name
+
+-- the first of these that isn't like the first member is refused
+abbrev pub RefusesUnlike : {M : Type 0} → (M → Seen) → ℕ → (Sibling × M) → List (Sibling × M) → Result (Unit {0}) PatchFault → Type 0
+RefusesUnlike seen line first others result =
+    Refuses (unlike_fault line (under_key seen first)) (find (differs (under_key seen first)) (map (under_key seen) others)) result

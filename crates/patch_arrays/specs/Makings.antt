@@ -1,12 +1,14 @@
 -- The array that stands for members, and where it is put.
-use Rattle.std.specs.Prelude.{◌≡◌, ◌⊎◌, ℕ, ◌^◌, ◌-◌, min, List, [], ◌∷◌, ◌++◌, map, take, drop, Result, Ok, Err, MatchResult, Vec}
+use Rattle.std.specs.Prelude.{◌≡◌, ◌⊎◌, ℕ, ◌^◌, ◌-◌, min, List, [], ◌∷◌, ◌++◌, map, take, drop, Result, Ok, Err, IfOk, MatchResult, Vec}
+use Rattle.patch_edits.specs.Edits.{Edited, Recounted}
 use Rattle.patch_edits.specs.Visits.{Below}
+use Rattle.patch_model.specs.Acts.{PatternItems}
 use Rattle.patch_sem.specs.Arrays.{first_uneven, ordered_by, unless_uneven, unless_unlike}
 use Rattle.patch_sem.specs.declared.fault.PatchFault.{PatchFault}
 use Rattle.patch_sem.specs.declared.fault.PatchFault.TheVariants.{Memory}
 use Rattle.patch_sem.specs.Steps.{Outcome}
-use Rattle.patch_arrays.specs.Arranging.{Element, array_of, first_differing, offset_of, placed_step}
-use Rattle.patch_arrays.specs.Members.{Seen, under_key}
+use Rattle.patch_arrays.specs.Arranging.{Element, array_of, arraying_in, first_differing, offset_of, placed_step}
+use Rattle.patch_arrays.specs.Members.{Seen, listed, under_key}
 use Rattle.patch_arrays.specs.declared.parting.Parted.{Parted}
 use Rattle.svd_model.specs.declared.sibling.Sibling.{Sibling}
 use Rattle.svd_rows.specs.Forest.{siblings}
@@ -46,3 +48,16 @@ MakesArray seen line name parted result =
 abbrev pub Arranges : {M Z : Type 0} → (M → Seen) → Outcome Below → Result (Vec (Sibling × M) Z) PatchFault → Type 0
 Arranges seen outcome result =
     MatchResult result (λ made. outcome ≡ Ok (siblings (map (under_key seen) made.items))) (λ fault. (fault ≡ Memory) ⊎ (outcome ≡ Err fault))
+
+-- the children become those that the array leaves, or the fault is its
+abbrev pub Arrays : {M : Type 0} → (M → Seen) → ℕ → PatternItems → List ℕ → List (Sibling × M) → List (Sibling × M) → Result (Unit {0}) PatchFault → Type 0
+Arrays seen line pattern name old new result = Edited (arraying_in capped line pattern name (map (under_key seen) old)) (listed seen new) result
+
+-- a count of these children, with others, has become the count of those that are made, with the same others
+abbrev pub MakesCounted : {M Z : Type 0} → (M → Seen) → Result (Vec (Sibling × M) Z) PatchFault → ℕ → List (Sibling × M) → ℕ → Type 0
+MakesCounted seen result before old after = IfOk result (λ made. Recounted before (listed seen old) after (listed seen made.items))
+
+-- all of them but the first
+abbrev pub behind : List Element → List Element
+behind [] = []
+behind (first ∷ others) = others

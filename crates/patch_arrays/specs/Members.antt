@@ -1,12 +1,13 @@
 -- A child as an array sees it: its kind, its keys, and what stands below it.
-use Rattle.std.specs.Prelude.{ℕ, Bool, ◌&&◌}
+use Rattle.std.specs.Prelude.{ℕ, Bool, ◌&&◌, List, map}
 use Rattle.patch_arrays.specs.Arranging.{Element, dimmed}
+use Rattle.patch_edits.specs.Visits.{Below}
 use Rattle.patch_arrays.specs.Siblings.{same_told}
 use Rattle.svd_model.specs.declared.sibling.Sibling.{Sibling}
 use Rattle.svd_model.specs.Keys.{Key}
 use Rattle.svd_model.specs.Steps.{Kind, Step, same_kind}
 use Rattle.svd_model.specs.Trees.{step_of}
-use Rattle.svd_rows.specs.Forest.{Tree}
+use Rattle.svd_rows.specs.Forest.{Tree, siblings}
 
 abbrev pub Seen : Type 0
 Seen = Kind × Tree Step Key
@@ -25,3 +26,7 @@ with_dim count step one = (one.0, record { keys = dimmed count step one.1.keys; 
 
 abbrev pub entry_key : {M : Type 0} → (Sibling × M) → Sibling
 entry_key entry = entry.0
+
+-- children under their keys, as siblings
+abbrev pub listed : {M : Type 0} → (M → Seen) → List (Sibling × M) → Below
+listed seen entries = siblings (map (under_key seen) entries)

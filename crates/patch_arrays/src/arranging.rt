@@ -1,13 +1,13 @@
-ghost use Rattle.std.specs.Prelude.{◌≡◌, ◌⊎◌, IfOk, map};
+ghost use Rattle.std.specs.Prelude.{◌≡◌, ◌⊎◌, IfOk, OnOk, map};
 ghost use Rattle.std.specs.List.{IsDistinct as AreDistinct, list_any};
 ghost use Rattle.std.specs.Str.{bytes_eq};
-ghost use Rattle.patch_edits.specs.Commands.{IsApplied, order_at};
-ghost use Rattle.patch_edits.specs.Edits.{Edited};
+ghost use Rattle.patch_edits.specs.Commands.{IsApplied, IsCounted, order_at};
+ghost use Rattle.patch_edits.specs.Edits.{Edited, Recounts, below_block};
 ghost use Rattle.patch_model.specs.Acts.{arrays};
 ghost use Rattle.patch_sem.specs.declared.fault.PatchFault.TheVariants.{AddExists, Memory};
 ghost use Rattle.patch_arrays.specs.Arranging.{arrayed_below, arraying_in};
-ghost use Rattle.patch_arrays.specs.Makings.{Arranges, capped};
-ghost use Rattle.patch_arrays.specs.Members.{entry_key, under_key};
+ghost use Rattle.patch_arrays.specs.Makings.{Arranges, Arrays, MakesCounted, capped};
+ghost use Rattle.patch_arrays.specs.Members.{entry_key, listed, under_key};
 ghost use Rattle.svd_model.proofs.Copies.{sibling_eq};
 ghost use Rattle.svd_model.specs.Facts.{IsDescribed};
 ghost use Rattle.svd_model.specs.Trees.{device_rows, item_under};
@@ -60,10 +60,12 @@ fn arrange<M: Member>(
     line: u32,
     pattern: &Pattern,
     name: &Name,
+    total: &mut u64,
     children: Vec<(Sibling, M)>,
 ) -> Result<Vec<(Sibling, M)>, PatchFault>
     ensures arranged { Arranges M.seen (arraying_in capped line pattern.now name.now (map (under_key M.seen) children.items)) result }
     ensures distinct { IfOk result (λ made. AreDistinct sibling_eq (map entry_key children.items) → AreDistinct sibling_eq (map entry_key made.items)) }
+    ensures counted { MakesCounted M.seen result total.old children.items total.new }
 {
     let Ok(parted) = part(alloc, pattern, children) else {
         return Err(PatchFault::Memory);
@@ -74,7 +76,7 @@ fn arrange<M: Member>(
     if has_name(name, parted.others.as_slice()) {
         return Err(exists(alloc, line, name));
     }
-    arrange_parted(alloc, line, name, parted)
+    arrange_parted(alloc, line, name, total, parted)
 }
 
 fn arrange_map<M: Member>(
@@ -82,14 +84,16 @@ fn arrange_map<M: Member>(
     line: u32,
     pattern: &Pattern,
     name: &Name,
+    total: &mut u64,
     entries: &mut IndexMap<Sibling, M>,
 ) -> Result<(), PatchFault>
-    ensures { Edited (arraying_in capped line pattern.now name.now (map (under_key M.seen) entries.old.entries)) (siblings (map (under_key M.seen) entries.new.entries)) result }
+    ensures edited { Arrays M.seen line pattern.now name.now entries.old.entries entries.new.entries result }
+    ensures counted { Recounts (listed M.seen) result total.old entries.old.entries total.new entries.new.entries }
 {
     let Ok(children) = entries_of(alloc, entries) else {
         return Err(PatchFault::Memory);
     };
-    let made = arrange(alloc, line, pattern, name, children)?;
+    let made = arrange(alloc, line, pattern, name, total, children)?;
     let Ok(_) = put_back(alloc, entries, made) else {
         return Err(PatchFault::Memory);
     };
@@ -101,14 +105,16 @@ fn arrange_items(
     line: u32,
     pattern: &Pattern,
     name: &Name,
+    total: &mut u64,
     items: &mut Vec<Item>,
 ) -> Result<(), PatchFault>
-    ensures { Edited (arraying_in capped line pattern.now name.now (map item_under items.old.items)) (siblings (map item_under items.new.items)) result }
+    ensures edited { Edited (arraying_in capped line pattern.now name.now (map item_under items.old.items)) (siblings (map item_under items.new.items)) result }
+    ensures counted { Recounts below_block result total.old items.old.items total.new items.new.items }
 {
     let Ok(children) = children_of(alloc, items) else {
         return Err(PatchFault::Memory);
     };
-    let made = arrange(alloc, line, pattern, name, children)?;
+    let made = arrange(alloc, line, pattern, name, total, children)?;
     let Ok(new) = items_of(alloc, made) else {
         return Err(PatchFault::Memory);
     };
@@ -122,21 +128,35 @@ impl<'a> Edit for Arraying<'a> {
     fn peripherals(
         &self,
         alloc: Global,
+        total: &mut u64,
         peripherals: &mut IndexMap<Sibling, Peripheral>,
     ) -> Result<(), PatchFault> {
-        arrange_map(alloc, self.line, self.pattern, self.name, peripherals)
+        arrange_map(
+            alloc,
+            self.line,
+            self.pattern,
+            self.name,
+            total,
+            peripherals,
+        )
     }
 
-    fn items(&self, alloc: Global, items: &mut Vec<Item>) -> Result<(), PatchFault> {
-        arrange_items(alloc, self.line, self.pattern, self.name, items)
+    fn items(
+        &self,
+        alloc: Global,
+        total: &mut u64,
+        items: &mut Vec<Item>,
+    ) -> Result<(), PatchFault> {
+        arrange_items(alloc, self.line, self.pattern, self.name, total, items)
     }
 
     fn fields(
         &self,
         alloc: Global,
+        total: &mut u64,
         fields: &mut IndexMap<Sibling, Field>,
     ) -> Result<(), PatchFault> {
-        arrange_map(alloc, self.line, self.pattern, self.name, fields)
+        arrange_map(alloc, self.line, self.pattern, self.name, total, fields)
     }
 
     #[tactic(auto, unfolding(crate::specs::Arranging::arrayed_below))]
@@ -149,23 +169,27 @@ impl<'a> Edit for Arraying<'a> {
 /// (svdtools' `_array`): with the keys and children of the one at the least offset, in the place of the one that stands first.
 /// `NoMatch` where there is none, or the parent is a field; `AddExists` where a child that isn't a member has the name;
 /// `ArrayUneven` with the first neighbours by offset whose step is 0 or isn't the first; `ArrayUnlike` with the first member and
-/// the first behind it that isn't like it. What is left after a refusal isn't said.
+/// the first behind it that isn't like it. `total` is how many elements the device has, before and after. What is left after a
+/// refusal isn't said.
 pub fn array(
     alloc: Global,
     line: u32,
     parents: &[Pattern],
     pattern: &Pattern,
     name: &Name,
+    total: &mut u64,
     device: &mut Device,
 ) -> Result<(), PatchFault>
-    requires { IsDescribed device.old }
+    requires described { IsDescribed device.old }
+    requires counted { IsCounted device.old total.old }
     ensures applied { IsApplied (order_at line parents.now (arrays pattern.now name.now)) (device_rows device.old) (device_rows device.new) result }
     ensures described { IfOk result (λ done. IsDescribed device.new) }
+    ensures counted { OnOk result (IsCounted device.new total.new) }
 {
     let arraying = Arraying {
         line,
         pattern,
         name,
     };
-    walk(alloc, &arraying, parents, &mut device.peripherals)
+    walk(alloc, &arraying, parents, total, &mut device.peripherals)
 }

@@ -1,8 +1,8 @@
 ghost use Rattle.std.specs.Prelude.{◌≡◌, ◌⊎◌, OnOk, find, map};
 ghost use Rattle.patch_sem.specs.Arrays.{first_step, is_uneven, neighbours, ordered_by};
 ghost use Rattle.patch_sem.specs.declared.fault.PatchFault.TheVariants.{ArrayUneven, ArrayUnlike, Memory};
-ghost use Rattle.patch_arrays.specs.Arranging.{differs, offset_of, placed_step};
-ghost use Rattle.patch_arrays.specs.Checks.{Refuses, uneven_fault, unlike_fault, uneven_pair};
+ghost use Rattle.patch_arrays.specs.Arranging.{offset_of, placed_step};
+ghost use Rattle.patch_arrays.specs.Checks.{Refuses, RefusesUnlike, uneven_fault, uneven_pair};
 ghost use Rattle.patch_arrays.specs.Members.{under_key};
 
 use crate::member::Member;
@@ -100,7 +100,7 @@ pub(crate) fn check_likeness<M: Member>(
     first: &(Sibling, M),
     others: &[(Sibling, M)],
 ) -> Result<(), PatchFault>
-    ensures { Refuses (unlike_fault line (under_key M.seen first.now)) (find (differs (under_key M.seen first.now)) (map (under_key M.seen) others.now)) result }
+    ensures { RefusesUnlike M.seen line first.now others.now result }
 {
     let mut rest = others;
     while let Some((other, behind)) = rest.split_first() {

@@ -1,12 +1,15 @@
 ghost use Rattle.std.specs.Prelude.{◌≡◌, ◌≤◌, ◌<◌, [], ◌∷◌, ◌++◌, IfOk, drop, length, map, take};
 ghost use Rattle.patch_arrays.specs.Arranging.{array_of};
-ghost use Rattle.patch_arrays.specs.Makings.{MakesArray, Passes, capped, key_of, unless_unfit};
-ghost use Rattle.patch_arrays.specs.Members.{under_key};
+ghost use Rattle.patch_arrays.specs.Makings.{MakesArray, MakesCounted, Passes, behind, capped, key_of, unless_unfit};
+ghost use Rattle.patch_arrays.specs.Members.{listed, under_key};
+ghost use Rattle.svd_model.specs.Counting.{elements_in, told_count};
+ghost use Rattle.svd_rows.specs.Forest.{siblings};
 
 use crate::checking::{check_likeness, check_steps, first_step, order};
 use crate::member::Member;
 use crate::parting::Parted;
 use pac_base::{Name, NoMemory};
+use patch_edits::{one_more, without};
 use patch_sem::PatchFault;
 use std::alloc::Global;
 use svd_model::Sibling;
@@ -61,16 +64,39 @@ fn check<M: Member>(alloc: Global, line: u32, members: &[(Sibling, M)]) -> Resul
     }
 }
 
+// How many elements these are, with those below them; 2^64 - 1 where there are more.
+fn elements_of<M: Member>(members: &[(Sibling, M)]) -> u64
+    ensures { result ≡ told_count (elements_in (listed M.seen members.now)) }
+{
+    let mut total = 0;
+    for member in members {
+        total = one_more(total, member.1.below());
+    }
+    total
+}
+
+// How many elements the members are behind the first, which stands for them.
+fn merged<M: Member>(members: &[(Sibling, M)]) -> u64
+    ensures { result ≡ told_count (elements_in (siblings (behind (map (under_key M.seen) members.now)))) }
+{
+    match members.split_first() {
+        None => 0,
+        Some((_, others)) => elements_of(others),
+    }
+}
+
 /// Puts the array that stands for the members among the others, unless they stand unevenly or are unlike.
 pub(crate) fn arrange_parted<M: Member>(
     alloc: Global,
     line: u32,
     name: &Name,
+    total: &mut u64,
     parted: Parted<M>,
 ) -> Result<Vec<(Sibling, M)>, PatchFault>
     requires some { 0 < length parted.members.items }
     requires within { parted.place ≤ length parted.others.items }
-    ensures { MakesArray M.seen line name.now parted result }
+    ensures made { MakesArray M.seen line name.now parted result }
+    ensures counted { MakesCounted M.seen result total.old (parted.members.items ++ parted.others.items) total.new }
 {
     let Parted {
         members,
@@ -82,6 +108,7 @@ pub(crate) fn arrange_parted<M: Member>(
         return Err(PatchFault::Memory);
     };
     check(alloc, line, ordered.as_slice())?;
+    *total = without(*total, merged(ordered.as_slice()));
     let Ok(array) = array_of(alloc, name, ordered) else {
         return Err(PatchFault::Memory);
     };

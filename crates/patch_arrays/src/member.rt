@@ -4,6 +4,7 @@ ghost use Rattle.patch_sem.specs.Selecting.{is_patched};
 ghost use Rattle.patch_arrays.specs.Members.{Seen, is_alike, with_dim};
 ghost use Rattle.patch_arrays.specs.Known.{child_known};
 ghost use Rattle.patch_arrays.specs.Unplaced.{with_members};
+ghost use Rattle.svd_model.specs.Counting.{elements_in, told_count};
 ghost use Rattle.svd_model.specs.Facts.{is_dim};
 ghost use Rattle.svd_model.specs.Stating.{start_of};
 ghost use Rattle.svd_model.specs.Steps.{field, peripheral};
@@ -31,6 +32,10 @@ pub(crate) trait Member: Drop {
     /// Whether the other is of its kind, and says the same but for the offset.
     fn is_like(&self, other: &Self) -> bool
         ensures { result ≡ is_alike (seen self.now) (seen other.now) };
+
+    /// How many elements stand below it; 2^64 - 1 where there are more.
+    fn below(&self) -> u64
+        ensures { result ≡ told_count (elements_in (seen self.now).1.below) };
 
     /// Makes it an array of so many members at that step.
     fn set_dim(&mut self, count: u64, step: u64)
@@ -61,6 +66,10 @@ impl Member for Peripheral {
         is_like_peripheral(self, other)
     }
 
+    fn below(&self) -> u64 {
+        self.elements()
+    }
+
     fn set_dim(&mut self, count: u64, step: u64) {
         set_members(&mut self.dim, count, step);
     }
@@ -86,6 +95,10 @@ impl Member for Child {
         is_like_child(self, other)
     }
 
+    fn below(&self) -> u64 {
+        self.elements()
+    }
+
     fn set_dim(&mut self, count: u64, step: u64) {
         match self {
             Child::Cluster(cluster) => set_members(&mut cluster.dim, count, step),
@@ -109,6 +122,10 @@ impl Member for Field {
 
     fn is_like(&self, other: &Field) -> bool {
         is_like_field(self, other)
+    }
+
+    fn below(&self) -> u64 {
+        self.elements()
     }
 
     fn set_dim(&mut self, count: u64, step: u64) {

@@ -9,6 +9,7 @@ use Rattle.patch_changes.specs.Changes.{changed_behind, changed_below, changed_w
 use Rattle.patch_edits.proofs.Binds.{given, given_is}
 use Rattle.patch_edits.proofs.Contexts.{tree_with}
 use Rattle.patch_edits.proofs.Keeping.{Keeps, each-steps, visited-every}
+use Rattle.patch_edits.proofs.Recounting.{Evens, evens-shrinks}
 use Rattle.patch_edits.proofs.Walks.{AgreesWhere, GoesDown, Shrinks, visited-fewer}
 use Rattle.patch_edits.specs.Commands.{order_at}
 use Rattle.patch_edits.specs.Deletions.{but_in_field, matched}
@@ -212,13 +213,13 @@ gave line (Some field) xs made new e = absurd (no e)
 gave line (Some set) xs made new e = gave-some line xs made new e
 gave line (Some value) xs made new e = gave-some line xs made new e
 
-pub changing-shrinks : (line : ℕ) (pattern : PatternItems) (texts : KeyList) (name : Option (List ℕ)) → Shrinks (changed_with line pattern texts name)
+pub changing-evens : (line : ℕ) (pattern : PatternItems) (texts : KeyList) (name : Option (List ℕ)) → Evens (changed_with line pattern texts name)
 unfolding changed_with
-changing-shrinks line pattern texts name kind f new e =
-    at_most (elements_in new) (elements_in f) (behind-counted line pattern texts name f [] new (gave line kind (matched pattern f) (changed_behind line pattern texts name [] f) new e))
-  where
-    at_most : (a b : ℕ) → a ≡ b → a ≤ b
-    at_most a b e = omega (arith, e)
+changing-evens line pattern texts name kind f new e =
+    behind-counted line pattern texts name f [] new (gave line kind (matched pattern f) (changed_behind line pattern texts name [] f) new e)
+
+pub changing-shrinks : (line : ℕ) (pattern : PatternItems) (texts : KeyList) (name : Option (List ℕ)) → Shrinks (changed_with line pattern texts name)
+changing-shrinks line pattern texts name = evens-shrinks (changed_with line pattern texts name) (changing-evens line pattern texts name)
 
 pub changing-every : (line : ℕ) (pattern : PatternItems) (texts : KeyList) (name : Option (List ℕ)) → Keeps (Every Fine) (changed_with line pattern texts name)
 unfolding changed_with

@@ -1,6 +1,6 @@
-ghost use Rattle.std.specs.Prelude.{IfOk};
+ghost use Rattle.std.specs.Prelude.{IfOk, OnOk};
 ghost use Rattle.patch_model.specs.Acts.{modifies_device};
-ghost use Rattle.patch_edits.specs.Commands.{IsApplied, order_at};
+ghost use Rattle.patch_edits.specs.Commands.{AreAsMany, IsApplied, order_at};
 ghost use Rattle.svd_model.specs.Facts.{IsDescribed};
 ghost use Rattle.svd_model.specs.Trees.{device_rows};
 
@@ -12,7 +12,7 @@ use std::alloc::Global;
 use svd_model::Device;
 
 /// Sets the keys of the device itself, whatever the patterns round the command (svdtools' `_modify`). It refuses
-/// nothing. What is left after want of memory isn't said.
+/// nothing, and leaves as many elements as there were. What is left after want of memory isn't said.
 pub fn modify_device(
     alloc: Global,
     line: u32,
@@ -23,6 +23,7 @@ pub fn modify_device(
     requires { IsDescribed device.old }
     ensures applied { IsApplied (order_at line parents.now (modifies_device keys.now)) (device_rows device.old) (device_rows device.new) result }
     ensures described { IfOk result (λ done. IsDescribed device.new) }
+    ensures counted { OnOk result (AreAsMany device.old device.new) }
 {
     match set_device_keys(alloc, keys, device) {
         Ok(()) => Ok(()),

@@ -1,6 +1,6 @@
-ghost use Rattle.std.specs.Prelude.{IfOk};
+ghost use Rattle.std.specs.Prelude.{IfOk, OnOk};
 ghost use Rattle.patch_changes.specs.Changes.{changed_with};
-ghost use Rattle.patch_edits.specs.Commands.{IsApplied, order_at};
+ghost use Rattle.patch_edits.specs.Commands.{IsApplied, IsCounted, order_at};
 ghost use Rattle.patch_model.specs.Acts.{modifies};
 ghost use Rattle.patch_ready.specs.Ready.{IsNewName};
 ghost use Rattle.svd_model.specs.Facts.{IsDescribed};
@@ -32,6 +32,7 @@ impl<'a> Edit for Modifying<'a> {
     fn peripherals(
         &self,
         alloc: Global,
+        _total: &mut u64,
         peripherals: &mut IndexMap<Sibling, Peripheral>,
     ) -> Result<(), PatchFault> {
         if !matches_one(self.pattern, peripherals) {
@@ -43,7 +44,12 @@ impl<'a> Edit for Modifying<'a> {
         rename_entries(alloc, self.line, self.pattern, self.name, peripherals)
     }
 
-    fn items(&self, alloc: Global, items: &mut Vec<Item>) -> Result<(), PatchFault> {
+    fn items(
+        &self,
+        alloc: Global,
+        _total: &mut u64,
+        items: &mut Vec<Item>,
+    ) -> Result<(), PatchFault> {
         if !matches_item(self.pattern, items.as_slice()) {
             return Err(PatchFault::NoMatch { line: self.line });
         }
@@ -56,6 +62,7 @@ impl<'a> Edit for Modifying<'a> {
     fn fields(
         &self,
         alloc: Global,
+        _total: &mut u64,
         fields: &mut IndexMap<Sibling, Field>,
     ) -> Result<(), PatchFault> {
         if !matches_one(self.pattern, fields) {
@@ -75,20 +82,23 @@ impl<'a> Edit for Modifying<'a> {
 
 /// Sets keys of each child that the pattern matches of each element that the parents lead to, and puts it under the new name
 /// where the keys have one (svdtools' `_modify`). The first fault of the first parent that has one: `NoMatch` where the pattern
-/// matches no child or the parent is a field, `AddExists` where two children would have the new name. What is left after a
-/// refusal isn't said.
+/// matches no child or the parent is a field, `AddExists` where two children would have the new name. `total` is how many elements
+/// the device has, before and after. What is left after a refusal isn't said.
 pub fn modify(
     alloc: Global,
     line: u32,
     parents: &[Pattern],
     pattern: &Pattern,
     keys: &[(Text, Text)],
+    total: &mut u64,
     device: &mut Device,
 ) -> Result<(), PatchFault>
     requires described { IsDescribed device.old }
+    requires counted { IsCounted device.old total.old }
     requires named { IsNewName keys.now }
     ensures applied { IsApplied (order_at line parents.now (modifies pattern.now keys.now)) (device_rows device.old) (device_rows device.new) result }
     ensures described { IfOk result (λ done. IsDescribed device.new) }
+    ensures counted { OnOk result (IsCounted device.new total.new) }
 {
     let Ok(name) = new_name(alloc, keys) else {
         return Err(PatchFault::Memory);
@@ -99,5 +109,5 @@ pub fn modify(
         keys,
         name: &name,
     };
-    walk(alloc, &modifying, parents, &mut device.peripherals)
+    walk(alloc, &modifying, parents, total, &mut device.peripherals)
 }

@@ -1,8 +1,8 @@
-ghost use Rattle.std.specs.Prelude.{◌≡◌, ◌⊎◌, IfErr, IfOk, MatchResult, Ok, Err, find, map, option_map, is_some};
+ghost use Rattle.std.specs.Prelude.{◌≡◌, ◌⊎◌, IfErr, IfOk, MatchResult, OnOk, Ok, Err, find, map, option_map, is_some};
 ghost use Rattle.std.specs.Option.{option_copied};
 ghost use Rattle.std.specs.Str.{bytes_eq};
 ghost use Rattle.patch_copies.specs.Copies.{IsMissing, copies_child};
-ghost use Rattle.patch_edits.specs.Commands.{IsApplied, order_at};
+ghost use Rattle.patch_edits.specs.Commands.{IsApplied, IsCounted, order_at};
 ghost use Rattle.patch_model.specs.Acts.{copies};
 ghost use Rattle.patch_sem.specs.declared.fault.PatchFault.TheVariants.{Memory};
 ghost use Rattle.patch_settings.specs.Setting.{with_set};
@@ -142,7 +142,7 @@ impl<'a> Maker for Copying<'a> {
 /// Copies the child `from` of each element that the parents lead to, whole and under a new name, behind all children, and sets
 /// keys of the copy (svdtools' `_copy`). The first fault of the first parent that has one: `NoMatch` in a field, `AddExists` where
 /// a child has the new name, `CopyMissing` where none has the name `from`, `TooMany` where more than 1,048,576 elements would be
-/// left. What is left after a refusal isn't said.
+/// left. `total` is how many elements the device has, before and after. What is left after a refusal isn't said.
 pub fn copy(
     alloc: Global,
     line: u32,
@@ -150,11 +150,14 @@ pub fn copy(
     name: &Name,
     from: &Name,
     keys: &[(Text, Text)],
+    total: &mut u64,
     device: &mut Device,
 ) -> Result<(), PatchFault>
-    requires { IsDescribed device.old }
+    requires described { IsDescribed device.old }
+    requires counted { IsCounted device.old total.old }
     ensures applied { IsApplied (order_at line parents.now (copies name.now from.now keys.now)) (device_rows device.old) (device_rows device.new) result }
     ensures described { IfOk result (λ done. IsDescribed device.new) }
+    ensures counted { OnOk result (IsCounted device.new total.new) }
 {
     let copying = Copying {
         line,
@@ -162,12 +165,5 @@ pub fn copy(
         from,
         keys,
     };
-    let mut total = device.elements();
-    walk(
-        alloc,
-        &copying,
-        parents,
-        &mut total,
-        &mut device.peripherals,
-    )
+    walk(alloc, &copying, parents, total, &mut device.peripherals)
 }

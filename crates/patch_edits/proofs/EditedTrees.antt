@@ -1,11 +1,12 @@
 -- What is left of the tree of an element below which something was edited.
-use Rattle.std.proofs.Common.{◌≡◌, Bool, true, ◌&&◌, map, Option, Some, Result, Ok, Err, refl, sym, ap, ap₂, ◌∙◌, subst, inl, inr}
+use Rattle.std.proofs.Common.{◌≡◌, ℕ, Bool, true, ◌&&◌, map, Option, Some, Result, Ok, Err, refl, sym, ap, ap₂, ◌∙◌, subst, inl, inr}
 use Rattle.glob_select.specs.Matching.{matches}
 use Rattle.patch_model.specs.Acts.{PatternItems}
 use Rattle.patch_sem.specs.declared.fault.PatchFault.{PatchFault}
 use Rattle.patch_sem.specs.Selecting.{is_patched, selects}
 use Rattle.patch_sem.specs.Steps.{Outcome}
-use Rattle.patch_edits.specs.Edits.{Edited, EditedChild, EditedOne}
+use Rattle.patch_edits.proofs.Recounting.{recounts-same}
+use Rattle.patch_edits.specs.Edits.{Edited, EditedChild, EditedOne, Recounts, below_block, below_child, below_item, below_register}
 use Rattle.patch_edits.specs.Visits.{Below, only_if}
 use Rattle.svd_model.specs.declared.device.Child.{Child}
 use Rattle.svd_model.specs.declared.device.Child.TheVariants.{Cluster, Register}
@@ -98,3 +99,23 @@ cluster-edited edit child element made result is derived dim offset alternate pr
 pub register-edited : (edit : Option Kind → Below → Outcome Below) (child : Child) (element made : RegisterOf) (result : Result (Unit {0}) PatchFault) → child ≡ Register element → register_places made ≡ register_places element → Edited (edit (Some register) (register_tree element).below) (register_tree made).below result → EditedChild edit (child_tree child) (child_tree (Register made)) result
 register-edited edit child element made result is places e =
     child-edited edit register (register_tree element) (register_tree made) (child_tree child) (child_tree (Register made)) result (ap child_tree is ∙ child_tree-register element) (child_tree-register made) (ap stated places) e
+
+-- ---- the running count at a child, by that of what stands below it
+
+pub item-recounts : (item : Item) (made : Item-F Child ClusterOf Item) (result : Result (Unit {0}) PatchFault) (before after : ℕ) → Recounts below_child result before item.child after made.child → Recounts below_item result before item after (roll-Item made)
+item-recounts item made result before after e =
+    recounts-same below_item below_child result before after item (roll-Item made) item.child made.child (ap (λ (x : Step × Tree Step Key). x.1.below) (item_under-is item)) (ap (λ (x : Step × Tree Step Key). x.1.below) (item_under-roll made)) e
+
+pub cluster-recounts : (child : Child) (element : ClusterOf) (made : Cluster-F Child ClusterOf Item) (result : Result (Unit {0}) PatchFault) (before after : ℕ) → child ≡ Cluster element → made.derived ≡ (out-Cluster element).derived → made.dim ≡ (out-Cluster element).dim → made.offset ≡ (out-Cluster element).offset → made.alternate ≡ (out-Cluster element).alternate → made.props ≡ (out-Cluster element).props → Recounts below_block result before (out-Cluster element).children.items after made.children.items → Recounts below_child result before child after (Cluster (roll-Cluster made))
+cluster-recounts child element made result before after is derived dim offset alternate props e =
+    recounts-same below_child below_block result before after child (Cluster (roll-Cluster made)) (out-Cluster element).children.items made.children.items
+    (ap below_child is ∙ ap (λ (x : Kind × Tree Step Key). x.1.below) (child_tree-cluster element) ∙ cluster_tree-below element)
+    (ap (λ (x : Kind × Tree Step Key). x.1.below) (child_tree-cluster (roll-Cluster made)) ∙ ap (λ (tree : Tree Step Key). tree.below) (cluster_tree-with_children made element derived dim offset alternate props))
+    e
+
+pub register-recounts : (child : Child) (element made : RegisterOf) (result : Result (Unit {0}) PatchFault) (before after : ℕ) → child ≡ Register element → Recounts below_register result before element.fields.entries after made.fields.entries → Recounts below_child result before child after (Register made)
+register-recounts child element made result before after is e =
+    recounts-same below_child below_register result before after child (Register made) element.fields.entries made.fields.entries
+    (ap below_child is ∙ ap (λ (x : Kind × Tree Step Key). x.1.below) (child_tree-register element))
+    (ap (λ (x : Kind × Tree Step Key). x.1.below) (child_tree-register made))
+    e

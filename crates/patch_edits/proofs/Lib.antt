@@ -8,3 +8,5 @@ pub mod Deleting
 pub mod Applying
 pub mod Keeping
 pub mod Binds
+pub mod Totals
+pub mod Recounting

@@ -2,11 +2,13 @@
 // each element that they lead to.
 #![tactic(auto)]
 
+mod counting;
 mod deletion;
 mod edit;
 mod opening;
 mod walking;
 
+pub use counting::{one_more, without};
 pub use deletion::delete;
 pub use edit::Edit;
 pub use opening::{matches_item, matches_one, open};

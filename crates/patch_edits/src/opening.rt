@@ -1,8 +1,8 @@
-ghost use Rattle.std.specs.Prelude.{◌≡◌, IfOk};
+ghost use Rattle.std.specs.Prelude.{◌≡◌, IfOk, OnOk};
 ghost use Rattle.std.specs.List.{list_any};
 ghost use Rattle.glob_select.specs.Matching.{matches};
 ghost use Rattle.patch_model.specs.Acts.{opens};
-ghost use Rattle.patch_edits.specs.Commands.{IsApplied, order_at};
+ghost use Rattle.patch_edits.specs.Commands.{IsApplied, IsCounted, order_at};
 ghost use Rattle.patch_edits.specs.Deletions.{opened_below};
 ghost use Rattle.svd_model.specs.Facts.{IsDescribed};
 ghost use Rattle.svd_model.specs.Trees.{device_rows};
@@ -52,6 +52,7 @@ impl<'a> Edit for Opening<'a> {
     fn peripherals(
         &self,
         _alloc: Global,
+        _total: &mut u64,
         peripherals: &mut IndexMap<Sibling, Peripheral>,
     ) -> Result<(), PatchFault> {
         if matches_one(self.pattern, peripherals) {
@@ -60,7 +61,12 @@ impl<'a> Edit for Opening<'a> {
         Err(PatchFault::NoMatch { line: self.line })
     }
 
-    fn items(&self, _alloc: Global, items: &mut Vec<Item>) -> Result<(), PatchFault> {
+    fn items(
+        &self,
+        _alloc: Global,
+        _total: &mut u64,
+        items: &mut Vec<Item>,
+    ) -> Result<(), PatchFault> {
         if matches_item(self.pattern, items.as_slice()) {
             return Ok(());
         }
@@ -70,6 +76,7 @@ impl<'a> Edit for Opening<'a> {
     fn fields(
         &self,
         _alloc: Global,
+        _total: &mut u64,
         fields: &mut IndexMap<Sibling, Field>,
     ) -> Result<(), PatchFault> {
         if matches_one(self.pattern, fields) {
@@ -85,18 +92,21 @@ impl<'a> Edit for Opening<'a> {
 }
 
 /// Opens a pattern in each element that the parents lead to, which leaves all as it is. `NoMatch` where it matches no child
-/// of a parent, or the parent is a field.
+/// of a parent, or the parent is a field. `total` is how many elements the device has, before and after.
 pub fn open(
     alloc: Global,
     line: u32,
     parents: &[Pattern],
     pattern: &Pattern,
+    total: &mut u64,
     device: &mut Device,
 ) -> Result<(), PatchFault>
-    requires { IsDescribed device.old }
+    requires described { IsDescribed device.old }
+    requires counted { IsCounted device.old total.old }
     ensures applied { IsApplied (order_at line parents.now (opens pattern.now)) (device_rows device.old) (device_rows device.new) result }
     ensures described { IfOk result (λ done. IsDescribed device.new) }
+    ensures counted { OnOk result (IsCounted device.new total.new) }
 {
     let opening = Opening { line, pattern };
-    walk(alloc, &opening, parents, &mut device.peripherals)
+    walk(alloc, &opening, parents, total, &mut device.peripherals)
 }

@@ -1,5 +1,5 @@
 -- A walk through a device that adds to it leaves what the command leaves of its flat rows, and the description stays one.
-use Rattle.std.proofs.Common.{◌≡◌, ◌≤◌, ℕ, ◌+◌, true, List, map, IfOk, arith, None, Result, Ok, Err, sym, ap, ◌∙◌, inl, inr, subst}
+use Rattle.std.proofs.Common.{◌≡◌, ◌≤◌, ℕ, ◌+◌, true, List, map, IfOk, OnOk, arith, None, Result, Ok, Err, sym, ap, ◌∙◌, inl, inr, subst}
 use Rattle.patch_model.specs.Acts.{Order, PatternItems}
 use Rattle.patch_sem.specs.declared.fault.PatchFault.{PatchFault}
 use Rattle.patch_sem.specs.Patching.{applied, places_of}
@@ -22,10 +22,6 @@ use Rattle.svd_model.specs.Steps.{same_key, same_step}
 use Rattle.svd_rows.proofs.Facts.{IsDistinct-finer}
 use Rattle.svd_rows.specs.LookUps.{element_paths}
 use Rattle.svd_rows.specs.Rows.{rows}
-
--- a count below the limit is told whole
-pub told-whole : (total n : ℕ) → total ≡ told_count n → n ≤ element_limit → total ≡ n
-told-whole total n is few = omega (arith, is, few)
 
 module _ (growth : Growth) (keys : List Key) (f new : Below) (total now : ℕ) (typed : IsTyped true f) (folded : IsFolded IsPlacedOrDerived (tree_with keys f)) (count : total ≡ elements_in f) where
   pub device-grown : (order : Order) → Agrees order growth → (result : Result (Unit {0}) PatchFault)
@@ -58,3 +54,12 @@ module _ (growth : Growth) (keys : List Key) (f new : Below) (total now : ℕ) (
       less : (z a b t : ℕ) → z + a ≡ t + b → t ≡ a → z ≤ element_limit → b ≤ element_limit
       less z a b t rises is few = omega (arith, rises, is, few)
   device-kept makes patterns (Err fault) e = tt
+
+  -- and the running count is that of what is left
+  pub device-told : (patterns : List PatternItems) (result : Result (Unit {0}) PatchFault) → Grown (grown_all growth (map selects patterns) None total f) now new result → OnOk result (now ≡ told_count (elements_in new))
+  device-told patterns (Ok done) e =
+      told now (elements_in f) (elements_in new) total (visited-rises growth (map selects patterns) None total f (now, new) e) count (visited-fits growth (map selects patterns) None total f (now, new) e (subst (λ (n : ℕ). n ≤ element_limit) (sym count) folded.few))
+    where
+      told : (z a b t : ℕ) → z + a ≡ t + b → t ≡ a → z ≤ element_limit → z ≡ told_count b
+      told z a b t rises is few = omega (arith, rises, is, few)
+  device-told patterns (Err fault) e = tt

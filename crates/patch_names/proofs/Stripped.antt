@@ -5,6 +5,7 @@ use Rattle.std.specs.Str.{bytes_eq}
 use Rattle.patch_edits.proofs.Binds.{given, given_is}
 use Rattle.patch_edits.proofs.Contexts.{tree_with}
 use Rattle.patch_edits.proofs.Keeping.{Keeps}
+use Rattle.patch_edits.proofs.Recounting.{Evens, evens-shrinks}
 use Rattle.patch_edits.proofs.Walks.{Agrees, Shrinks}
 use Rattle.patch_edits.specs.Commands.{order_at}
 use Rattle.patch_edits.specs.Deletions.{but_in_field}
@@ -82,14 +83,14 @@ gave line (Some field) found made new e = cc
 gave line (Some set) found made new e = gave-here line found made new e
 gave line (Some value) found made new e = gave-here line found made new e
 
-pub strip-shrinks : (line : ℕ) (prefix : List ℕ) → Shrinks (stripped_below line prefix)
+pub strip-evens : (line : ℕ) (prefix : List ℕ) → Evens (stripped_below line prefix)
 unfolding stripped_below
-strip-shrinks line prefix kind f new e =
-    subst (λ (g : Below). elements_in g ≤ elements_in f) (gave line kind (first_clash prefix (map step_name (steps f))) (renamed (stripped_step prefix) f) new e).1
-    (same (elements_in (renamed (stripped_step prefix) f)) (elements_in f) (count-renamed is_counted (stripped_step prefix) (λ step. refl) f))
-  where
-    same : (a b : ℕ) → a ≡ b → a ≤ b
-    same a b e = omega (arith, e)
+strip-evens line prefix kind f new e =
+    subst (λ (g : Below). elements_in g ≡ elements_in f) (gave line kind (first_clash prefix (map step_name (steps f))) (renamed (stripped_step prefix) f) new e).1
+    (count-renamed is_counted (stripped_step prefix) (λ step. refl) f)
+
+pub strip-shrinks : (line : ℕ) (prefix : List ℕ) → Shrinks (stripped_below line prefix)
+strip-shrinks line prefix = evens-shrinks (stripped_below line prefix) (strip-evens line prefix)
 
 -- ---- names of values
 

@@ -1,6 +1,6 @@
-ghost use Rattle.std.specs.Prelude.{◌≡◌, IfOk, map};
+ghost use Rattle.std.specs.Prelude.{◌≡◌, IfOk, OnOk, map};
 ghost use Rattle.patch_model.specs.Acts.{strips};
-ghost use Rattle.patch_edits.specs.Commands.{IsApplied, order_at};
+ghost use Rattle.patch_edits.specs.Commands.{IsApplied, IsCounted, order_at};
 ghost use Rattle.patch_names.specs.Renaming.{Strips, entry_name, item_name, stripped_below, stripped_element, stripped_entry};
 ghost use Rattle.svd_model.specs.Facts.{IsDescribed};
 ghost use Rattle.svd_model.specs.Trees.{device_rows, item_under};
@@ -76,18 +76,25 @@ impl<'a> Edit for Stripping<'a> {
     fn peripherals(
         &self,
         alloc: Global,
+        _total: &mut u64,
         peripherals: &mut IndexMap<Sibling, Peripheral>,
     ) -> Result<(), PatchFault> {
         strip_map(alloc, self.line, self.prefix, peripherals)
     }
 
-    fn items(&self, alloc: Global, items: &mut Vec<Item>) -> Result<(), PatchFault> {
+    fn items(
+        &self,
+        alloc: Global,
+        _total: &mut u64,
+        items: &mut Vec<Item>,
+    ) -> Result<(), PatchFault> {
         strip_list(alloc, self.line, self.prefix, items)
     }
 
     fn fields(
         &self,
         alloc: Global,
+        _total: &mut u64,
         fields: &mut IndexMap<Sibling, Field>,
     ) -> Result<(), PatchFault> {
         strip_map(alloc, self.line, self.prefix, fields)
@@ -101,22 +108,25 @@ impl<'a> Edit for Stripping<'a> {
 
 /// Takes the prefix off the names of the children of each element that the parents lead to, of those that begin with it and
 /// whose rest is a name (svdtools' `_strip`). `StripClash` where two children of a parent would have one name then, with the
-/// pair whose second stands first, and of these the one whose first does; `NoMatch` where the parent is a field. What is left
-/// after a refusal isn't said.
+/// pair whose second stands first, and of these the one whose first does; `NoMatch` where the parent is a field. `total` is how
+/// many elements the device has, before and after. What is left after a refusal isn't said.
 pub fn strip(
     alloc: Global,
     line: u32,
     parents: &[Pattern],
     prefix: &Text,
+    total: &mut u64,
     device: &mut Device,
 ) -> Result<(), PatchFault>
-    requires { IsDescribed device.old }
+    requires described { IsDescribed device.old }
+    requires counted { IsCounted device.old total.old }
     ensures applied { IsApplied (order_at line parents.now (strips prefix.now)) (device_rows device.old) (device_rows device.new) result }
     ensures described { IfOk result (λ done. IsDescribed device.new) }
+    ensures counted { OnOk result (IsCounted device.new total.new) }
 {
     let stripping = Stripping {
         line,
         prefix: prefix.as_str().as_bytes(),
     };
-    walk(alloc, &stripping, parents, &mut device.peripherals)
+    walk(alloc, &stripping, parents, total, &mut device.peripherals)
 }

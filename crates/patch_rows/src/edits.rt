@@ -48,10 +48,12 @@ fn refused(done: &Result<(), PatchFault>) -> u32 {
 fn deletion_takes_away_all_that_match(rt: HostRuntime) -> Result<(), Fail> {
     let pattern = Pattern::new(rt.alloc(), b"TIM[1-3]*,USART?")?;
     let mut device = read_device(rt.alloc(), TIMERS.as_bytes())?.into_device();
-    delete(rt.alloc(), 1, &[], &pattern, &mut device)?;
+    let mut total = device.elements();
+    delete(rt.alloc(), 1, &[], &pattern, &mut total, &mut device)?;
+    assert!(rt; total == 4);
     assert!(rt; names(rt.alloc(), &device)?.as_str() == "TIM4 USART10 ");
     let other = Pattern::new(rt.alloc(), b"I2C*")?;
-    let done = delete(rt.alloc(), 1, &[], &other, &mut device);
+    let done = delete(rt.alloc(), 1, &[], &other, &mut total, &mut device);
     assert!(rt; refused(&done) == 1);
     Ok(())
 }
@@ -65,10 +67,11 @@ fn a_register_in_a_cluster_in_a_cluster_is_deleted(rt: HostRuntime) -> Result<()
     ];
     let pattern = Pattern::new(rt.alloc(), b"R")?;
     let mut device = read_device(rt.alloc(), NESTED.as_bytes())?.into_device();
-    open(rt.alloc(), 4, &parents, &pattern, &mut device)?;
-    assert!(rt; device.elements() == 7);
-    delete(rt.alloc(), 5, &parents, &pattern, &mut device)?;
-    assert!(rt; device.elements() == 4);
+    let mut total = device.elements();
+    open(rt.alloc(), 4, &parents, &pattern, &mut total, &mut device)?;
+    assert!(rt; total == 7);
+    delete(rt.alloc(), 5, &parents, &pattern, &mut total, &mut device)?;
+    assert!(rt; total == 4 && device.elements() == 4);
     Ok(())
 }
 
@@ -83,7 +86,8 @@ fn nothing_matches_in_a_field(rt: HostRuntime) -> Result<(), Fail> {
     ];
     let pattern = Pattern::new(rt.alloc(), b"*")?;
     let mut device = read_device(rt.alloc(), NESTED.as_bytes())?.into_device();
-    let done = delete(rt.alloc(), 7, &parents, &pattern, &mut device);
+    let mut total = device.elements();
+    let done = delete(rt.alloc(), 7, &parents, &pattern, &mut total, &mut device);
     assert!(rt; refused(&done) == 7);
     Ok(())
 }

@@ -7,6 +7,7 @@ loop-command-preserved c = (
   c.in_ok-one.ensures.described,
   went_on c.args.commands.now c.args.state.now c.loop-command.command-index (device_rows c.loop-command.device) c.command-item.result c.loop-command-test.true c.command-item.is
       c.loop-command.invariant.1 (device_rows c.one.new.device) c.in_ok-one.ensures.applied,
+  c.in_ok-one.ensures.counted,
 )
 
 pub returns-in_err-one-clause-patched : goal.returns-in_err-one-clause-patched

@@ -3,6 +3,9 @@ use Rattle.std.proofs.Common.{inr, sym, ap, ◌∙◌, eqb-true, eq-eqb}
 use Rattle.std.specs.List.{list_any}
 use Rattle.std.specs.Str.{bytes_eq}
 use Rattle.patch_arrays.proofs.Arranged.{arranged-by, distinct-by, no-items, no_both, none-arranged, refused-by, some-items}
+use Rattle.patch_arrays.proofs.Merged.{parted-counted}
+use Rattle.patch_arrays.specs.Arranging.{is_member}
+use Rattle.patch_arrays.specs.Members.{under_key}
 use Rattle.patch_arrays.proofs.arranging.arrange.Goals as goal
 
 pub returns-then-is_empty-clause-arranged : goal.returns-then-is_empty-clause-arranged
@@ -20,10 +23,14 @@ pub returns-clause-arranged : goal.returns-clause-arranged
 returns-clause-arranged g c =
     arranged-by g.M.Member.seen g.M.Member.known c.args.line c.args.pattern.now c.args.name.now c.args.children.items c.in-Ok.parted c.in-Ok.ensures
     (some-items c.in-Ok.parted.members.items (λ none. no_both _ (eq-eqb _ _ (c.in-Ok.parted.members.ok.0 ∙ none)) (sym c.is_empty.ensures ∙ c.if-is_empty.false)))
-    (sym (ap (list_any (λ entry. bytes_eq c.args.name.now entry.0.name)) c.as_slice.ensures.value) ∙ sym c.has_name.ensures ∙ c.if-has_name.false) c.arrange_parted.result c.arrange_parted.ensures
+    (sym (ap (list_any (λ entry. bytes_eq c.args.name.now entry.0.name)) c.as_slice.ensures.value) ∙ sym c.has_name.ensures ∙ c.if-has_name.false) c.arrange_parted.result c.arrange_parted.ensures.made
 
 pub returns-clause-distinct : goal.returns-clause-distinct
 returns-clause-distinct g c =
     distinct-by g.M.Member.seen g.M.Member.known c.args.line c.args.pattern.now c.args.name.now c.args.children.items c.in-Ok.parted c.in-Ok.ensures
     (some-items c.in-Ok.parted.members.items (λ none. no_both _ (eq-eqb _ _ (c.in-Ok.parted.members.ok.0 ∙ none)) (sym c.is_empty.ensures ∙ c.if-is_empty.false)))
-    (sym (ap (list_any (λ entry. bytes_eq c.args.name.now entry.0.name)) c.as_slice.ensures.value) ∙ sym c.has_name.ensures ∙ c.if-has_name.false) c.arrange_parted.result c.arrange_parted.ensures
+    (sym (ap (list_any (λ entry. bytes_eq c.args.name.now entry.0.name)) c.as_slice.ensures.value) ∙ sym c.has_name.ensures ∙ c.if-has_name.false) c.arrange_parted.result c.arrange_parted.ensures.made
+
+pub returns-clause-counted : goal.returns-clause-counted
+returns-clause-counted g c =
+    parted-counted g.M.Member.seen (λ entry. is_member c.args.pattern.now (under_key g.M.Member.seen entry)) c.args.children.items c.in-Ok.parted c.arrange_parted.result c.args.total.now c.arrange_parted.new.total c.in-Ok.ensures c.arrange_parted.ensures.counted

@@ -1,7 +1,8 @@
 use Rattle.std.proofs.Common.{map, refl}
 use Rattle.patch_model.specs.Acts.{copies}
 use Rattle.patch_edits.specs.Commands.{order_at}
-use Rattle.patch_growth.proofs.Applying.{device-grown, device-kept, told-whole}
+use Rattle.patch_edits.proofs.Recounting.{told-whole}
+use Rattle.patch_growth.proofs.Applying.{device-grown, device-kept, device-told}
 use Rattle.patch_copies.proofs.CopySound.{copy-sound}
 use Rattle.patch_copies.proofs.Copying.{copy-agrees}
 use Rattle.patch_growth.proofs.Typed.{peripherals-typed}
@@ -16,14 +17,21 @@ pub returns-clause-applied : goal.returns-clause-applied
 unfolding device_tree device_places
 returns-clause-applied c =
     let f = siblings (map peripheral_under c.args.device.now.peripherals.entries) in
-    device-grown (copies_child c.args.line c.args.name.now c.args.from.now c.args.keys.now) (stated (device_places c.args.device.now)) f (siblings (map peripheral_under c.walk.new.peripherals.entries)) c.elements-total.result c.walk.new.total
-    (peripherals-typed c.args.device.now.peripherals.entries) c.requires (told-whole c.elements-total.result (elements_in f) c.elements-total.ensures c.requires.few)
+    device-grown (copies_child c.args.line c.args.name.now c.args.from.now c.args.keys.now) (stated (device_places c.args.device.now)) f (siblings (map peripheral_under c.walk.new.peripherals.entries)) c.args.total.now c.walk.new.total
+    (peripherals-typed c.args.device.now.peripherals.entries) c.requires.described (told-whole c.args.total.now (elements_in f) c.requires.counted c.requires.described.few)
     (order_at c.args.line c.args.parents.now (copies c.args.name.now c.args.from.now c.args.keys.now)) (copy-agrees c.args.line c.args.name.now c.args.from.now c.args.keys.now c.args.parents.now) c.walk.result refl c.walk.ensures
 
 pub returns-clause-described : goal.returns-clause-described
 unfolding device_tree device_places
 returns-clause-described c =
     let f = siblings (map peripheral_under c.args.device.now.peripherals.entries) in
-    device-kept (copies_child c.args.line c.args.name.now c.args.from.now c.args.keys.now) (stated (device_places c.args.device.now)) f (siblings (map peripheral_under c.walk.new.peripherals.entries)) c.elements-total.result c.walk.new.total
-    (peripherals-typed c.args.device.now.peripherals.entries) c.requires (told-whole c.elements-total.result (elements_in f) c.elements-total.ensures c.requires.few)
+    device-kept (copies_child c.args.line c.args.name.now c.args.from.now c.args.keys.now) (stated (device_places c.args.device.now)) f (siblings (map peripheral_under c.walk.new.peripherals.entries)) c.args.total.now c.walk.new.total
+    (peripherals-typed c.args.device.now.peripherals.entries) c.requires.described (told-whole c.args.total.now (elements_in f) c.requires.counted c.requires.described.few)
     (copy-sound c.args.line c.args.name.now c.args.from.now c.args.keys.now) c.args.parents.now c.walk.result c.walk.ensures
+
+pub returns-clause-counted : goal.returns-clause-counted
+unfolding device_tree device_places
+returns-clause-counted c =
+    let f = siblings (map peripheral_under c.args.device.now.peripherals.entries) in
+    device-told (copies_child c.args.line c.args.name.now c.args.from.now c.args.keys.now) (stated (device_places c.args.device.now)) f (siblings (map peripheral_under c.walk.new.peripherals.entries)) c.args.total.now c.walk.new.total
+    (peripherals-typed c.args.device.now.peripherals.entries) c.requires.described (told-whole c.args.total.now (elements_in f) c.requires.counted c.requires.described.few) c.args.parents.now c.walk.result c.walk.ensures

@@ -1,5 +1,6 @@
 use Rattle.std.proofs.Common.{ℕ, List, None, map, refl, subst, ◌∙◌}
 use Rattle.patch_edits.proofs.Applying.{device-applied, device-folded}
+use Rattle.patch_edits.proofs.Recounting.{device-counted}
 use Rattle.patch_edits.specs.Commands.{order_at}
 use Rattle.patch_edits.specs.Edits.{Edited}
 use Rattle.patch_edits.specs.Visits.{visited}
@@ -19,8 +20,8 @@ returns-clause-applied c =
     device-applied (order_at c.args.line c.args.parents.now (strips c.args.prefix.now)) (stripped_below c.args.line c.args.prefix.now)
     (strip-agrees c.args.line c.args.prefix.now c.args.parents.now) (strip-shrinks c.args.line c.args.prefix.now)
     (stated (device_places c.args.device.now)) (siblings (map peripheral_under c.args.device.now.peripherals.entries)) (siblings (map peripheral_under c.walk.new.peripherals.entries))
-    c.walk.result c.requires.distinct c.requires.few refl
-    (subst (λ (prefix : List ℕ). Edited (visited (stripped_below c.args.line prefix) (map selects c.args.parents.now) None (siblings (map peripheral_under c.args.device.now.peripherals.entries))) (siblings (map peripheral_under c.walk.new.peripherals.entries)) c.walk.result) (c.as_bytes.ensures.value ∙ c.as_str.ensures) c.walk.ensures)
+    c.walk.result c.requires.described.distinct c.requires.described.few refl
+    (subst (λ (prefix : List ℕ). Edited (visited (stripped_below c.args.line prefix) (map selects c.args.parents.now) None (siblings (map peripheral_under c.args.device.now.peripherals.entries))) (siblings (map peripheral_under c.walk.new.peripherals.entries)) c.walk.result) (c.as_bytes.ensures.value ∙ c.as_str.ensures) c.walk.ensures.edited)
 
 pub returns-clause-described : goal.returns-clause-described
 unfolding device_tree device_places
@@ -28,4 +29,10 @@ returns-clause-described c =
     device-folded IsPlacedOrDerived (stripped_below c.args.line c.as_bytes.result.now) (map selects c.args.parents.now) (strip-shrinks c.args.line c.as_bytes.result.now)
     (strip-every IsPlacedOrDerived c.args.line c.as_bytes.result.now) (strip-distinct c.args.line c.as_bytes.result.now)
     (stated (device_places c.args.device.now)) (siblings (map peripheral_under c.args.device.now.peripherals.entries)) (siblings (map peripheral_under c.walk.new.peripherals.entries))
-    c.walk.result c.requires c.walk.ensures
+    c.walk.result c.requires.described c.walk.ensures.edited
+
+pub returns-clause-counted : goal.returns-clause-counted
+unfolding device_tree device_places
+returns-clause-counted c =
+    device-counted IsPlacedOrDerived (stated (device_places c.args.device.now)) (siblings (map peripheral_under c.args.device.now.peripherals.entries)) (siblings (map peripheral_under c.walk.new.peripherals.entries))
+    c.args.total.now c.walk.new.total c.walk.result c.requires.described.few c.requires.counted (returns-clause-described c) c.walk.ensures.counted

@@ -5,7 +5,7 @@ use Rattle.patch_arrays.specs.Arranging.{arrayed_below}
 use Rattle.svd_model.specs.Trees.{field_under}
 use Rattle.patch_arrays.proofs.arranging.ArrayingEdit.fields.Goals as goal
 
-pub returns : goal.returns
+pub returns-clause-edited : goal.returns-clause-edited
 unfolding arrayed_below
-returns c =
-    edited-in c.args.self.now.line c.args.self.now.pattern.now c.args.self.now.name.now (map field_under c.args.fields.now.entries) (map field_under c.arrange_map.new.entries.entries) c.arrange_map.result c.arrange_map.ensures
+returns-clause-edited c =
+    edited-in c.args.self.now.line c.args.self.now.pattern.now c.args.self.now.name.now (map field_under c.args.fields.now.entries) (map field_under c.arrange_map.new.entries.entries) c.arrange_map.result c.arrange_map.ensures.edited

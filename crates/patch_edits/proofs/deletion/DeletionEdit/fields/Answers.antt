@@ -5,12 +5,12 @@ use Rattle.patch_edits.specs.Deletions.{deleted_below}
 use Rattle.svd_model.specs.Trees.{field_under}
 use Rattle.patch_edits.proofs.deletion.DeletionEdit.fields.Goals as goal
 
-pub returns-then-keep_others : goal.returns-then-keep_others
+pub returns-then-keep_others-clause-edited : goal.returns-then-keep_others-clause-edited
 unfolding deleted_below
-returns-then-keep_others c =
+returns-then-keep_others-clause-edited c =
     inr (deletes-none c.args.self.now.line c.args.self.now.pattern.now field_under (is_matched c.args.self.now.pattern.now) (field_tells c.args.self.now.pattern.now) c.args.fields.now.entries c.keep_others.new.entries.entries c.keep_others.ensures.kept (c.keep_others.ensures.all.0 c.if-keep_others.true))
 
-pub returns : goal.returns
+pub returns-clause-edited : goal.returns-clause-edited
 unfolding deleted_below
-returns c =
+returns-clause-edited c =
     deletes-some c.args.self.now.line c.args.self.now.pattern.now field_under (is_matched c.args.self.now.pattern.now) (field_tells c.args.self.now.pattern.now) c.args.fields.now.entries c.keep_others.new.entries.entries c.keep_others.ensures.kept (λ e. both_ways _ c.if-keep_others.false (c.keep_others.ensures.all.1 e))

@@ -1,11 +1,17 @@
 -- What is left of the peripherals.
-use Rattle.std.proofs.Common.{refl}
-use Rattle.patch_names.proofs.Stripped.{map-stripped}
+use Rattle.std.proofs.Common.{refl, None}
+use Rattle.patch_names.proofs.Stripped.{map-stripped, strip-evens}
 use Rattle.patch_names.specs.Renaming.{entry_name, stripped_below, stripped_entry}
 use Rattle.svd_model.specs.Trees.{peripheral_under}
+use Rattle.patch_edits.proofs.Recounting.{recounts-even}
+use Rattle.patch_edits.specs.Edits.{below_device}
 use Rattle.patch_names.proofs.stripping.StrippingEdit.peripherals.Goals as goal
 
-pub returns : goal.returns
+pub returns-clause-edited : goal.returns-clause-edited
 unfolding stripped_below
-returns c =
+returns-clause-edited c =
     map-stripped peripheral_under entry_name (λ entry. refl) c.args.self.now.line c.args.self.now.prefix.now (stripped_entry c.args.self.now.prefix.now) (λ entry. refl) c.args.peripherals.now.entries c.strip_map.new.entries.entries c.strip_map.result c.strip_map.ensures
+
+pub returns-clause-counted : goal.returns-clause-counted
+returns-clause-counted c =
+    recounts-even below_device (stripped_below c.args.self.now.line c.args.self.now.prefix.now) (strip-evens c.args.self.now.line c.args.self.now.prefix.now) None c.args._total.now c.args.peripherals.now.entries c.strip_map.new.entries.entries c.strip_map.result (returns-clause-edited c)
