@@ -1,5 +1,5 @@
 use crate::vendor::VENDOR;
-use pac_base::Span;
+use pac_base::{NoMemory, Span};
 use std::alloc::Global;
 use std::test::Fail;
 use svd_text::{Element, Source, TextFault, read_element};
@@ -13,73 +13,91 @@ fn counted(element: &Element) -> u32 {
     count
 }
 
-/// The place at which a text is refused; None where it is read.
-fn refused(alloc: Global, text: &[u8]) -> Result<Option<u32>, Fail> {
+/// What a text is: `read`, or its fault, with the first byte of that.
+fn said(alloc: Global, text: &[u8]) -> (&'static str, u32) {
     if text.len() > 5000 {
-        return Err(Fail::from("a short text"));
+        return ("no short text", 0);
     }
     match read_element(alloc, text) {
-        Ok(_device) => Ok(None),
-        Err(TextFault::Syntax { at }) => Ok(Some(at)),
-        Err(fault) => Err(Fail::from(fault)),
+        Ok(_device) => ("read", 0),
+        Err(TextFault::Syntax { at }) => ("syntax", at),
+        Err(
+            TextFault::TooDeep {
+                span: Span { start, end: _ },
+            },
+        ) => ("too deep", start),
+        Err(_) => ("no memory", 0),
+    }
+}
+
+/// Whether a text is refused at this place, or read where there is none.
+fn stops(alloc: Global, text: &[u8], at: Option<u32>) -> bool {
+    match at {
+        Some(at) => said(alloc, text) == ("syntax", at),
+        None => said(alloc, text) == ("read", 0),
     }
 }
 
 /// Texts, each with the place at which it is refused, if it is.
-const TEXTS: &[(&str, Option<u32>)] = &[
-    ("", Some(0)),
-    ("<device/>", None),
+const TEXTS: &[(&[u8], Option<u32>)] = &[
+    (b"", Some(0)),
+    (b"<device/>", None),
     (
-        "\u{FEFF} <?xml version='1.0'?>\n<!--a--> <device />\n<!--b-->\n",
+        b"\xEF\xBB\xBF <?xml version='1.0'?>\n<!--a--> <device />\n<!--b-->\n",
         None,
     ),
-    ("<?xml <device/>", Some(15)),
-    ("<device/><?xml?>", Some(9)),
-    ("x<device/>", Some(0)),
-    ("<device/><device/>", Some(9)),
-    ("<device/>&#32;", Some(9)),
-    ("<!----><package/>", Some(7)),
-    ("<device></Device>", Some(8)),
-    ("<device></device></device>", Some(17)),
-    ("<device><!-- </device>", Some(8)),
-    ("<device> <!-- x -->x</device>", Some(19)),
-    ("<device>&#32;</device>", Some(8)),
-    ("<device><peripherals>x</peripherals></device>", Some(21)),
+    (b"<?xml <device/>", Some(15)),
+    (b"<device/><?xml?>", Some(9)),
+    (b"x<device/>", Some(0)),
+    (b"<device/><device/>", Some(9)),
+    (b"<device/>&#32;", Some(9)),
+    (b"<!----><package/>", Some(7)),
+    (b"<device></Device>", Some(8)),
+    (b"<device></device></device>", Some(17)),
+    (b"<device><!-- </device>", Some(8)),
+    (b"<device> <!-- x -->x</device>", Some(19)),
+    (b"<device>&#32;</device>", Some(8)),
+    (b"<device><peripherals>x</peripherals></device>", Some(21)),
     (
-        "<device><cpu>x&lt;<peripherals>x</peripherals></cpu></device>",
-        None,
-    ),
-    (
-        "<device><peripheral>x<registers>x</registers></peripheral></device>",
+        b"<device><cpu>x&lt;<peripherals>x</peripherals></cpu></device>",
         None,
     ),
     (
-        "<device><size>x<peripherals>x</peripherals></size></device>",
+        b"<device><peripheral>x<registers>x</registers></peripheral></device>",
         None,
     ),
-    ("<device a='1' a='2'/>", Some(0)),
-    ("<device><size></device></size>", Some(14)),
+    (
+        b"<device><size>x<peripherals>x</peripherals></size></device>",
+        None,
+    ),
+    (b"<device a='1' a='2'/>", Some(0)),
+    (b"<device><size></device></size>", Some(14)),
 ];
 
-const WHOLE: &str = "<?xml?><device><name>D&amp;</name><!--c--></device>";
+const WHOLE: &[u8] = b"<?xml?><device><name>D&amp;</name><!--c--></device>";
 
 #[test]
-fn texts_and_the_places_of_syntax(rt: HostRuntime) -> Result<(), Fail> {
-    for &(text, at) in TEXTS {
-        assert!(rt; refused(rt.alloc(), text.as_bytes())? == at, "{text}");
+fn texts_and_the_places_of_syntax(rt: HostRuntime) {
+    for (place, &(text, at)) in TEXTS.iter().enumerate() {
+        assert!(rt; stops(rt.alloc(), text, at), "{place}");
     }
-    assert!(rt; refused(rt.alloc(), b"<device>\xFF</device>")? == Some(8));
-    Ok(())
+    assert!(rt; stops(rt.alloc(), b"<device>\xFF</device>", Some(8)));
+}
+
+/// Whether no text up to a byte of a text is one.
+fn has_no_prefix(alloc: Global, text: &[u8]) -> bool {
+    for end in 0..text.len() {
+        if said(alloc, text.split_at(end).0).0 != "syntax" {
+            return false;
+        }
+    }
+    true
 }
 
 #[test]
-fn no_prefix_is_a_text(rt: HostRuntime) -> Result<(), Fail> {
-    for end in 0..WHOLE.len() {
-        let text = &WHOLE.as_bytes()[..end];
-        assert!(rt; refused(rt.alloc(), text)?.is_some(), "{end}");
-    }
-    assert!(rt; refused(rt.alloc(), WHOLE.as_bytes())?.is_none());
-    Ok(())
+fn no_prefix_is_a_text(rt: HostRuntime) {
+    assert!(rt; has_no_prefix(rt.alloc(), WHOLE));
+    assert!(rt; stops(rt.alloc(), WHOLE, None));
 }
 
 /// Whether the last element of the last one inside refers to a name that stands at this place.
@@ -97,7 +115,7 @@ fn last_source<'a>(device: &Element<'a>) -> Option<Source<'a>> {
 
 #[test]
 fn elements_of_a_vendors_file(rt: HostRuntime) -> Result<(), Fail> {
-    let device = read_element(rt.alloc(), VENDOR.as_bytes())?;
+    let device = read_element(rt.alloc(), VENDOR)?;
     assert!(rt; counted(&device) == 71);
     assert!(rt; device.name_at == 112 && device.ends_at == 2098);
     assert!(rt; is_derived_from(&device, b"TIM2", 1998));
@@ -126,9 +144,8 @@ fn value_without_comments(rt: HostRuntime) -> Result<(), Fail> {
 }
 
 /// A text whose elements nest so deep, and what stands at its end.
-fn nested(alloc: Global, depth: usize, end: &str) -> Result<String, Fail> {
-    let mut text = String::new(alloc);
-    text.push_str("<device><vendorExtensions>")?;
+fn nested(alloc: Global, depth: usize, end: &str) -> Result<String, NoMemory> {
+    let mut text = String::from_str(alloc, "<device><vendorExtensions>")?;
     for _ in 2..depth {
         text.push_str("<a>")?;
     }
@@ -138,24 +155,6 @@ fn nested(alloc: Global, depth: usize, end: &str) -> Result<String, Fail> {
     text.push_str("</vendorExtensions></device>")?;
     text.push_str(end)?;
     Ok(text)
-}
-
-/// What a text of nested elements is: `read`, or the fault with its first byte.
-fn nesting(alloc: Global, depth: usize, end: &str) -> Result<(&'static str, u32), Fail> {
-    let text = nested(alloc, depth, end)?;
-    if text.len() > 5000 {
-        return Err(Fail::from("a short text"));
-    }
-    match read_element(alloc, text.as_bytes()) {
-        Ok(_device) => Ok(("read", 0)),
-        Err(
-            TextFault::TooDeep {
-                span: Span { start, end: _ },
-            },
-        ) => Ok(("too deep", start)),
-        Err(TextFault::Syntax { at }) => Ok(("syntax", at)),
-        Err(fault) => Err(Fail::from(fault)),
-    }
 }
 
 /// How deep the elements of a text nest, what stands at its end, and what it is. Of a text that is
@@ -169,8 +168,12 @@ const NESTED: &[(usize, &str, &str, u32)] = &[
 
 #[test]
 fn nesting_up_to_64(rt: HostRuntime) -> Result<(), Fail> {
-    for &(depth, end, said, at) in NESTED {
-        assert!(rt; nesting(rt.alloc(), depth, end)? == (said, at), "{depth}");
+    for &(depth, end, wanted, at) in NESTED {
+        let text = nested(rt.alloc(), depth, end)?;
+        assert!(rt;
+            said(rt.alloc(), text.as_bytes()) == (wanted, at),
+            "{depth}"
+        );
     }
     Ok(())
 }

@@ -1,3 +1,4 @@
+use pac_base::NoMemory;
 use std::alloc::Global;
 use std::test::Fail;
 use svd_values::{DimIndex, IndexFault, dim_index};
@@ -21,34 +22,44 @@ const INDEXES: &[(&str, &str, &str)] = &[
     ("", "none", ""),
 ];
 
-fn last_index(alloc: Global, text: &str) -> Result<(&'static str, String), Fail> {
+/// Whether a text gives an index of this kind, of which this is the last.
+fn has_last(alloc: Global, text: &str, kind: &str, last: &str) -> Result<bool, NoMemory> {
     match dim_index(alloc, text.as_bytes()) {
-        Ok(DimIndex::Numbers { first: _, last }) => {
-            Ok(("numbers", format!(in alloc; "{last}")?))
-        }
-        Ok(DimIndex::Letters { first: _, last }) => Ok((
-            "letters",
-            format!(in alloc; "{}", char::from(last))?,
-        )),
-        Ok(DimIndex::Words(words)) => {
-            let last = words.as_slice().last().ok_or("a word")?;
-            let text = str::from_utf8(last.bytes())?;
-            Ok(("words", String::from_str(alloc, text)?))
-        }
-        Err(IndexFault::NotAnIndex) => Ok(("none", String::new(alloc))),
-        Err(fault) => Err(Fail::from(fault)),
+        Ok(index) => Ok(kind_of(&index) == kind && is_last(alloc, &index, last)?),
+        Err(IndexFault::NotAnIndex) => Ok(kind == "none"),
+        Err(IndexFault::Memory) => Err(NoMemory),
     }
 }
 
-fn is_last_index(alloc: Global, text: &str, kind: &str, last: &str) -> Result<bool, Fail> {
-    let (found, index) = last_index(alloc, text)?;
-    Ok(found == kind && index.as_bytes() == last.as_bytes())
+fn kind_of(index: &DimIndex) -> &'static str {
+    match index {
+        DimIndex::Numbers { .. } => "numbers",
+        DimIndex::Letters { .. } => "letters",
+        DimIndex::Words(_) => "words",
+    }
+}
+
+fn is_last(alloc: Global, index: &DimIndex, last: &str) -> Result<bool, NoMemory> {
+    match index {
+        DimIndex::Numbers {
+            first: _,
+            last: number,
+        } => Ok(format!(in alloc; "{number}")?.as_str() == last),
+        DimIndex::Letters {
+            first: _,
+            last: letter,
+        } => Ok(last.as_bytes() == [*letter].as_slice()),
+        DimIndex::Words(words) => match words.as_slice().last() {
+            Some(word) => Ok(word.bytes() == last.as_bytes()),
+            None => Ok(false),
+        },
+    }
 }
 
 #[test]
 fn last_index_of_a_dimension(rt: HostRuntime) -> Result<(), Fail> {
     for &(text, kind, last) in INDEXES {
-        assert!(rt; is_last_index(rt.alloc(), text, kind, last)?, "{text}");
+        assert!(rt; has_last(rt.alloc(), text, kind, last)?, "{text}");
     }
     Ok(())
 }

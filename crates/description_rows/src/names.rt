@@ -1,4 +1,4 @@
-use pac_base::{Name, NameFault, Path, Step, Text, TextFault};
+use pac_base::{Name, NameFault, NoMemory, Path, Step, Text, TextFault};
 use std::alloc::Global;
 use std::test::Fail;
 use svd_values::{accessor, is_call, slot_name, variant_call};
@@ -9,15 +9,22 @@ const NO_NAMES: &[&str] = &[
     "", "[%s]", "A B", "A-B", "CH%", "%s%s", "CH[%s]X", "CH%s[%s]", "CH[%S]",
 ];
 
+/// Whether a text is a name, and its copy that text.
+fn is_name(alloc: Global, text: &str) -> Result<bool, NoMemory> {
+    match Name::new(alloc, text.as_bytes()) {
+        Ok(name) => Ok(name.copy(alloc)?.bytes() == text.as_bytes()),
+        Err(NameFault::NotAName) => Ok(false),
+        Err(NameFault::Memory) => Err(NoMemory),
+    }
+}
+
 #[test]
 fn names_are_words_with_one_mark(rt: HostRuntime) -> Result<(), Fail> {
     for &text in NAMES {
-        let name = Name::new(rt.alloc(), text.as_bytes())?;
-        assert!(rt; name.copy(rt.alloc())?.bytes() == text.as_bytes(), "{text}");
+        assert!(rt; is_name(rt.alloc(), text)?, "{text}");
     }
     for &text in NO_NAMES {
-        let name = Name::new(rt.alloc(), text.as_bytes());
-        assert!(rt; matches!(name, Err(NameFault::NotAName)), "{text}");
+        assert!(rt; !is_name(rt.alloc(), text)?, "{text}");
     }
     Ok(())
 }
@@ -58,29 +65,29 @@ const ACCESSORS: &[(&str, &str)] = &[
 // Written names, with the slot that each gives.
 const SLOTS: &[(&str, &str)] = &[("Self", "Self_"), ("READ", "READ"), ("1WIRE", "_1WIRE")];
 
-fn accessor_of(alloc: Global, written: &str) -> Result<Name, Fail> {
-    let name = Name::new(alloc, written.as_bytes())?;
-    Ok(accessor(alloc, &name)?)
+/// Whether a written name gives this accessor.
+fn has_accessor(alloc: Global, written: &str, call: &str) -> Result<bool, NoMemory> {
+    match Name::new(alloc, written.as_bytes()) {
+        Ok(name) => Ok(accessor(alloc, &name)?.bytes() == call.as_bytes()),
+        Err(_) => Ok(false),
+    }
 }
 
-fn slot_of(alloc: Global, written: &str) -> Result<Name, Fail> {
-    let name = Name::new(alloc, written.as_bytes())?;
-    Ok(slot_name(alloc, &name)?)
+/// Whether a written name gives this slot.
+fn has_slot(alloc: Global, written: &str, slot: &str) -> Result<bool, NoMemory> {
+    match Name::new(alloc, written.as_bytes()) {
+        Ok(name) => Ok(slot_name(alloc, &name)?.bytes() == slot.as_bytes()),
+        Err(_) => Ok(false),
+    }
 }
 
 #[test]
 fn keyword_names(rt: HostRuntime) -> Result<(), Fail> {
     for &(written, call) in ACCESSORS {
-        assert!(rt;
-            accessor_of(rt.alloc(), written)?.bytes() == call.as_bytes(),
-            "{written}"
-        );
+        assert!(rt; has_accessor(rt.alloc(), written, call)?, "{written}");
     }
     for &(written, slot) in SLOTS {
-        assert!(rt;
-            slot_of(rt.alloc(), written)?.bytes() == slot.as_bytes(),
-            "{written}"
-        );
+        assert!(rt; has_slot(rt.alloc(), written, slot)?, "{written}");
     }
     Ok(())
 }
@@ -92,20 +99,24 @@ const VALUE_CALLS: &[(&str, &str, &str)] = &[
     ("At bit", "at_bit_", "is_at_bit"),
 ];
 
-fn calls_of(alloc: Global, written: &str) -> Result<(Name, Name), Fail> {
+/// Whether a value of this name has these calls.
+fn has_calls(alloc: Global, written: &str, writes: &str, asks: &str) -> Result<bool, NoMemory> {
     if written.is_empty() {
-        return Err(Fail::from("a name"));
+        return Ok(false);
     }
-    let name = Text::new(alloc, written.as_bytes())?;
-    Ok((variant_call(alloc, &name)?, is_call(alloc, &name)?))
+    match Text::new(alloc, written.as_bytes()) {
+        Ok(name) => Ok(
+            variant_call(alloc, &name)?.bytes() == writes.as_bytes()
+                && is_call(alloc, &name)?.bytes() == asks.as_bytes(),
+        ),
+        Err(_) => Ok(false),
+    }
 }
 
 #[test]
 fn calls_of_values(rt: HostRuntime) -> Result<(), Fail> {
     for &(written, writes, asks) in VALUE_CALLS {
-        let (write, ask) = calls_of(rt.alloc(), written)?;
-        assert!(rt; write.bytes() == writes.as_bytes(), "{written}");
-        assert!(rt; ask.bytes() == asks.as_bytes(), "{written}");
+        assert!(rt; has_calls(rt.alloc(), written, writes, asks)?, "{written}");
     }
     Ok(())
 }

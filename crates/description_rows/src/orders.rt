@@ -83,24 +83,34 @@ fn is_order(order: &[usize], rows: &[Row]) -> bool {
     order.len() == rows.len()
 }
 
-#[test]
-fn elements_stand_behind_their_needs(rt: HostRuntime) -> Result<(), Fail> {
-    for (place, rows) in ORDERED.iter().enumerate() {
-        let order = order_of(rt.alloc(), *rows)?;
-        assert!(rt; is_order(order.as_slice(), *rows), "{place}");
+// Whether the rows have an order.
+fn have_order(alloc: Global, rows: &[Row]) -> bool {
+    match order_of(alloc, rows) {
+        Ok(order) => is_order(order.as_slice(), rows),
+        Err(_) => false,
     }
-    Ok(())
 }
 
 #[test]
-fn the_first_on_a_circle_is_told(rt: HostRuntime) -> Result<(), Fail> {
-    for (place, (rows, wanted)) in CIRCLES.iter().enumerate() {
-        match order_of(rt.alloc(), *rows) {
-            Err(NeedFault::Circle { first }) => assert!(rt; first == *wanted, "{place}"),
-            _ => assert!(rt; false, "{place}"),
-        }
+fn elements_stand_behind_their_needs(rt: HostRuntime) {
+    for (place, rows) in ORDERED.iter().enumerate() {
+        assert!(rt; have_order(rt.alloc(), *rows), "{place}");
     }
-    Ok(())
+}
+
+// Whether the rows have a circle, with this first element with a base on it.
+fn have_circle(alloc: Global, rows: &[Row], wanted: Option<usize>) -> bool {
+    match order_of(alloc, rows) {
+        Err(NeedFault::Circle { first }) => first == wanted,
+        _ => false,
+    }
+}
+
+#[test]
+fn the_first_on_a_circle_is_told(rt: HostRuntime) {
+    for (place, &(rows, wanted)) in CIRCLES.iter().enumerate() {
+        assert!(rt; have_circle(rt.alloc(), rows, wanted), "{place}");
+    }
 }
 
 #[test]

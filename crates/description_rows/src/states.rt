@@ -22,7 +22,7 @@ fn is_derived(derived: &Result<Derived, Back<Patched, DeriveFault>>) -> bool {
 
 #[test]
 fn a_vendors_file_is_read_copied_and_derived(rt: HostRuntime) -> Result<(), Fail> {
-    let read = read_device(rt.alloc(), VENDOR.as_bytes())?;
+    let read = read_device(rt.alloc(), VENDOR)?;
     let copy = read.copy(rt.alloc())?;
     assert!(rt; is_vendors(copy.device(), 13));
     let derived = derive(rt.alloc(), Patched::new(copy.into_device()));

@@ -1,5 +1,5 @@
 /// A description as a vendor writes it: 71 elements of the text, 13 of the device.
-pub const VENDOR: &str = r#"<?xml version="1.0" encoding="utf-8" standalone="no"?>
+pub const VENDOR: &[u8] = br#"<?xml version="1.0" encoding="utf-8" standalone="no"?>
 <!-- Licensed under the Apache License, Version 2.0 -->
 <device schemaVersion="1.3" xmlns:xs="http://www.w3.org/2001/XMLSchema-instance" xs:noNamespaceSchemaLocation="CMSIS-SVD.xsd">
   <vendor>Example</vendor><name>EX32F1</name><version>1.2</version>

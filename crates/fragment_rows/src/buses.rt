@@ -1,12 +1,37 @@
-ghost use Rattle.std.specs.Prelude.{◌≤◌, ◌<◌, ◌^◌, All, IfOk};
+ghost use Rattle.std.specs.Prelude.{◌<◌, ◌^◌, All, IfOk};
 ghost use Rattle.pac_bus.specs.EventTexts.{HoldsWord};
 
 use frag_tree::{Event, Events, Said};
 use pac_base::{NoMemory, Width};
-use pac_bus::{AnyBus, Bus, BusFailed, FailBus, MemBus, ZeroBus, events_text};
+use pac_bus::{AnyBus, Bus, FailBus, MemBus, ZeroBus, events_text};
 use pac_io::{MemSink, SinkFault};
 use std::alloc::Global;
 use std::test::Fail;
+
+/// A bus of bytes.
+pub(crate) fn memory(alloc: Global) -> Result<AnyBus, NoMemory> {
+    Ok(AnyBus {
+        bus: Box::new(alloc, MemBus::new(alloc))?,
+    })
+}
+
+/// A bus of zeros.
+pub(crate) fn zeros(alloc: Global) -> Result<AnyBus, NoMemory> {
+    Ok(AnyBus {
+        bus: Box::new(alloc, ZeroBus::new(alloc))?,
+    })
+}
+
+/// A bus that fails at these accesses.
+pub(crate) fn failing(alloc: Global, accesses: &[u64]) -> Result<AnyBus, NoMemory> {
+    let mut bus = FailBus::new(alloc);
+    for access in accesses {
+        bus.fail(*access)?;
+    }
+    Ok(AnyBus {
+        bus: Box::new(alloc, bus)?,
+    })
+}
 
 // A word of one of the four widths.
 #[derive(Clone, Copy)]
@@ -46,57 +71,70 @@ const STEPS: &[Step] = &[
     Step::Read(0xffff_ffff, Word::Double(0)),
 ];
 
-fn preset<B: Bus>(bus: &mut B, address: u64, word: Word) -> Result<(), NoMemory>
+// Whether a word could be preset.
+fn preset(bus: &mut AnyBus, address: u64, word: Word) -> bool
     requires { address < 2 ^ 32 }
 {
     match word {
-        Word::Byte(value) => bus.preset(address, Width::W8, u64::from(value)),
-        Word::Half(value) => bus.preset(address, Width::W16, u64::from(value)),
-        Word::Whole(value) => bus.preset(address, Width::W32, u64::from(value)),
-        Word::Double(value) => bus.preset(address, Width::W64, value),
+        Word::Byte(value) => bus.preset(address, Width::W8, u64::from(value)).is_ok(),
+        Word::Half(value) => bus.preset(address, Width::W16, u64::from(value)).is_ok(),
+        Word::Whole(value) => bus.preset(address, Width::W32, u64::from(value)).is_ok(),
+        Word::Double(value) => bus.preset(address, Width::W64, value).is_ok(),
     }
 }
 
-fn write<B: Bus>(bus: &mut B, address: u64, word: Word) -> Result<(), BusFailed>
-    requires reach { address < 2 ^ 32 }
-    requires room { 1 ≤ (B.told bus.old).spare }
+// Whether a word could be written.
+fn write(bus: &mut AnyBus, address: u64, word: Word) -> bool
+    requires { address < 2 ^ 32 }
 {
+    if bus.ready(1).is_err() {
+        return false;
+    }
     match word {
-        Word::Byte(value) => bus.write(address, Width::W8, u64::from(value)),
-        Word::Half(value) => bus.write(address, Width::W16, u64::from(value)),
-        Word::Whole(value) => bus.write(address, Width::W32, u64::from(value)),
-        Word::Double(value) => bus.write(address, Width::W64, value),
+        Word::Byte(value) => bus.write(address, Width::W8, u64::from(value)).is_ok(),
+        Word::Half(value) => bus.write(address, Width::W16, u64::from(value)).is_ok(),
+        Word::Whole(value) => bus.write(address, Width::W32, u64::from(value)).is_ok(),
+        Word::Double(value) => bus.write(address, Width::W64, value).is_ok(),
+    }
+}
+
+// Whether a read of so many bits gives this.
+fn gives(bus: &mut AnyBus, address: u64, width: Width, wanted: u64) -> bool
+    requires { address < 2 ^ 32 }
+{
+    if bus.ready(1).is_err() {
+        return false;
+    }
+    match bus.read(address, width) {
+        Ok(found) => found == wanted,
+        Err(_) => false,
     }
 }
 
 // Whether a read gives this word.
-fn gives<B: Bus>(bus: &mut B, address: u64, word: Word) -> Result<bool, BusFailed>
-    requires reach { address < 2 ^ 32 }
-    requires room { 1 ≤ (B.told bus.old).spare }
+fn reads(bus: &mut AnyBus, address: u64, word: Word) -> bool
+    requires { address < 2 ^ 32 }
 {
     match word {
-        Word::Byte(value) => Ok(bus.read(address, Width::W8)? == u64::from(value)),
-        Word::Half(value) => Ok(bus.read(address, Width::W16)? == u64::from(value)),
-        Word::Whole(value) => Ok(bus.read(address, Width::W32)? == u64::from(value)),
-        Word::Double(value) => Ok(bus.read(address, Width::W64)? == value),
+        Word::Byte(value) => gives(bus, address, Width::W8, u64::from(value)),
+        Word::Half(value) => gives(bus, address, Width::W16, u64::from(value)),
+        Word::Whole(value) => gives(bus, address, Width::W32, u64::from(value)),
+        Word::Double(value) => gives(bus, address, Width::W64, value),
     }
 }
 
 // Whether the step could be done, and gave what it must.
-fn went<B: Bus>(bus: &mut B, step: Step) -> bool {
-    if bus.ready(1).is_err() {
-        return false;
-    }
+fn went(bus: &mut AnyBus, step: Step) -> bool {
     match step {
-        Step::Preset(address, word) => preset(bus, u64::from(address), word).is_ok(),
-        Step::Write(address, word) => write(bus, u64::from(address), word).is_ok(),
-        Step::Read(address, word) => matches!(gives(bus, u64::from(address), word), Ok(true)),
+        Step::Preset(address, word) => preset(bus, u64::from(address), word),
+        Step::Write(address, word) => write(bus, u64::from(address), word),
+        Step::Read(address, word) => reads(bus, u64::from(address), word),
     }
 }
 
 #[test]
 fn a_memory_bus_gives_back_its_bytes(rt: HostRuntime) -> Result<(), Fail> {
-    let mut bus = MemBus::new(rt.alloc());
+    let mut bus = memory(rt.alloc())?;
     for (place, step) in STEPS.iter().enumerate() {
         assert!(rt; went(&mut bus, *step), "{place}");
     }
@@ -105,9 +143,7 @@ fn a_memory_bus_gives_back_its_bytes(rt: HostRuntime) -> Result<(), Fail> {
 
 #[test]
 fn a_zero_bus_gives_zeros(rt: HostRuntime) -> Result<(), Fail> {
-    let mut bus = AnyBus {
-        bus: Box::new(rt.alloc(), ZeroBus::new(rt.alloc()))?,
-    };
+    let mut bus = zeros(rt.alloc())?;
     assert!(rt; went(&mut bus, Step::Preset(16, Word::Byte(1))));
     assert!(rt; went(&mut bus, Step::Write(16, Word::Byte(1))));
     assert!(rt; went(&mut bus, Step::Read(16, Word::Byte(0))));
@@ -116,8 +152,7 @@ fn a_zero_bus_gives_zeros(rt: HostRuntime) -> Result<(), Fail> {
 
 #[test]
 fn a_listed_access_fails(rt: HostRuntime) -> Result<(), Fail> {
-    let mut bus = FailBus::new(rt.alloc());
-    bus.fail(2)?;
+    let mut bus = failing(rt.alloc(), &[2])?;
     assert!(rt; went(&mut bus, Step::Read(16, Word::Byte(0))));
     assert!(rt; !went(&mut bus, Step::Write(16, Word::Byte(0))));
     assert!(rt; went(&mut bus, Step::Read(16, Word::Byte(0))));

@@ -1,10 +1,12 @@
+use crate::texts::{edited, joined, place_of};
 use frag_parse::{ParseFault, parse_crate};
-use frag_tree::{Version, print_crate};
+use frag_tree::{Crate, Version, print_crate};
+use pac_base::NoMemory;
 use pac_io::{MemSink, SinkFault};
 use std::alloc::Global;
 use std::test::Fail;
 
-pub(crate) const EXAMPLE: &str = "use crate::generic::*;
+pub(crate) const EXAMPLE: &[u8] = b"use crate::generic::*;
 
 pub struct Peripherals {
     pub T: Periph<t::RegisterBlock, 0x40000000>,
@@ -44,22 +46,34 @@ pub mod t {
 // two markers, two readers and two writers.
 const PLACES: &[usize] = &[53, 101, 194, 252, 310, 642, 667, 719, 819, 952, 1046];
 
+// Whether a crate is printed as this text.
+fn prints(alloc: Global, krate: &Crate, text: &[u8]) -> Result<bool, SinkFault> {
+    let mut sink = MemSink::new(alloc);
+    print_crate(alloc, krate, &mut sink)?;
+    Ok(sink.written() == text)
+}
+
+// Whether a crate can't be printed where the first write fails.
+fn stops(alloc: Global, krate: &Crate) -> Result<bool, SinkFault> {
+    let mut failing = MemSink::new(alloc);
+    failing.fail(1)?;
+    Ok(matches!(
+        print_crate(alloc, krate, &mut failing),
+        Err(SinkFault::Failed)
+    ))
+}
+
 #[test]
 fn what_is_read_is_printed_as_it_was(rt: HostRuntime) -> Result<(), Fail> {
-    let krate = parse_crate(rt.alloc(), EXAMPLE.as_bytes())?;
+    let krate = parse_crate(rt.alloc(), EXAMPLE)?;
     assert!(rt; krate.places.as_slice() == PLACES);
-    let mut sink = MemSink::new(rt.alloc());
-    print_crate(rt.alloc(), &krate, &mut sink)?;
-    assert!(rt; sink.written() == EXAMPLE.as_bytes());
-    let mut failing = MemSink::new(rt.alloc());
-    failing.fail(1)?;
-    let printed = print_crate(rt.alloc(), &krate, &mut failing);
-    assert!(rt; matches!(printed, Err(SinkFault::Failed)));
+    assert!(rt; prints(rt.alloc(), &krate, EXAMPLE)?);
+    assert!(rt; stops(rt.alloc(), &krate)?);
     Ok(())
 }
 
 // A text of version 2, with a bit and a number whose calls take an index.
-const INDEXED: &str = "pub const CRATE_TEXT: u32 = 0x2;
+const INDEXED: &[u8] = b"pub const CRATE_TEXT: u32 = 0x2;
 use crate::generic::*;
 
 pub struct Peripherals {
@@ -96,145 +110,169 @@ pub mod d {
 
 #[test]
 fn version_two_is_printed_as_it_was_read(rt: HostRuntime) -> Result<(), Fail> {
-    let krate = parse_crate(rt.alloc(), INDEXED.as_bytes())?;
+    let krate = parse_crate(rt.alloc(), INDEXED)?;
     assert!(rt; matches!(krate.version, Version::Two));
-    let mut sink = MemSink::new(rt.alloc());
-    print_crate(rt.alloc(), &krate, &mut sink)?;
-    assert!(rt; sink.written() == INDEXED.as_bytes());
+    assert!(rt; prints(rt.alloc(), &krate, INDEXED)?);
     Ok(())
 }
 
 // Up to this byte, behind its slots, the text is a crate without modules.
 const SLOTS: usize = 134;
 
-// The text with one byte in the place of another.
-fn spoiled(alloc: Global, place: usize) -> Result<Vec<u8>, Fail> {
-    let mut bytes = Vec::from_slice(alloc, INDEXED.as_bytes())?;
-    if let Some(byte) = bytes.get_mut(place) {
-        *byte = b'@';
-    }
-    Ok(bytes)
-}
-
 // Whether the bytes are no crate.
 fn is_syntax(alloc: Global, bytes: &[u8]) -> bool {
     matches!(parse_crate(alloc, bytes), Err(ParseFault::Syntax { .. }))
 }
 
-#[test]
-fn no_part_of_version_two_can_be_left_out(rt: HostRuntime) -> Result<(), Fail> {
-    let whole = INDEXED.as_bytes();
-    for (place, byte) in whole.iter().enumerate() {
+// The place of the first byte up to which the text is a crate, or without which it is one, but for those behind the
+// slots; its length where there is none.
+fn first_wrong(alloc: Global, text: &[u8]) -> Result<usize, NoMemory> {
+    let mut spoiled = Vec::from_slice(alloc, text)?;
+    for (place, byte) in text.iter().enumerate() {
         if *byte == b' ' || *byte == b'\n' {
             continue;
         }
-        let front = whole.split_at(place).0;
-        assert!(rt;
-            is_syntax(rt.alloc(), front) == (place != SLOTS),
-            "up to {place}"
-        );
-        let other = spoiled(rt.alloc(), place)?;
-        assert!(rt; is_syntax(rt.alloc(), other.as_slice()), "at {place}");
+        if is_syntax(alloc, text.split_at(place).0) != (place != SLOTS) {
+            return Ok(place);
+        }
+        put(&mut spoiled, place, b'@');
+        if !is_syntax(alloc, spoiled.as_slice()) {
+            return Ok(place);
+        }
+        put(&mut spoiled, place, *byte);
     }
+    Ok(text.len())
+}
+
+// Puts a byte in its place.
+fn put(bytes: &mut Vec<u8>, place: usize, byte: u8) {
+    if let Some(old) = bytes.get_mut(place) {
+        *old = byte;
+    }
+}
+
+#[test]
+fn no_part_of_version_two_can_be_left_out(rt: HostRuntime) -> Result<(), Fail> {
+    let place = first_wrong(rt.alloc(), INDEXED)?;
+    assert!(rt; place == INDEXED.len(), "{place}");
     Ok(())
 }
 
 // What is put in the place of what, once in the text of version 2, and what reading stops at.
-const EDITED: &[(&str, &str, &str)] = &[
-    ("0x2;\nuse", "0x3;\nuse", "0x3"),
-    ("0x2;\nuse", "0x02;\nuse", "0x02"),
+const EDITED: &[(&[u8], &[u8], &[u8])] = &[
+    (b"0x2;\nuse", b"0x3;\nuse", b"0x3"),
+    (b"0x2;\nuse", b"0x02;\nuse", b"0x02"),
     // two lines of the version, and none
     (
-        "use crate",
-        "pub const CRATE_TEXT: u32 = 0x2; use crate",
-        "pub const CRATE_TEXT: u32 = 0x2; use",
+        b"use crate",
+        b"pub const CRATE_TEXT: u32 = 0x2; use crate",
+        b"pub const CRATE_TEXT: u32 = 0x2; use",
     ),
     (
-        "pub const CRATE_TEXT: u32 = 0x2;",
-        "",
-        ", n: usize) -> BitReader",
+        b"pub const CRATE_TEXT: u32 = 0x2;",
+        b"",
+        b", n: usize) -> BitReader",
     ),
     (
-        "R<Spec> {\n            pub fn ch(&self, n: usize)",
-        "R<Spec> {\n            pub fn ch(&self)",
-        "at_bit",
+        b"R<Spec> {\n            pub fn ch(&self, n: usize)",
+        b"R<Spec> {\n            pub fn ch(&self)",
+        b"at_bit",
     ),
     // arguments of `at_bit`
-    ("at_bit(0, 4, 8, n)) &", "at_bit(0, 4, n)) &", "n)) & 0x1"),
-    ("at_bit(0, 4, 8, n)) &", "at_bit(0, 4, 8, 1, n)) &", "1, n)"),
-    ("at_bit(0, 4, 8, n)) &", "at_bit(0, 4, 8, i)) &", "i)) &"),
-    ("at_bit(0, 4, 8, n)) &", "at_bit(0, 0x4, 8, n)) &", "0x4, 8"),
+    (
+        b"at_bit(0, 4, 8, n)) &",
+        b"at_bit(0, 4, n)) &",
+        b"n)) & 0x1",
+    ),
+    (
+        b"at_bit(0, 4, 8, n)) &",
+        b"at_bit(0, 4, 8, 1, n)) &",
+        b"1, n)",
+    ),
+    (b"at_bit(0, 4, 8, n)) &", b"at_bit(0, 4, 8, i)) &", b"i)) &"),
+    (
+        b"at_bit(0, 4, 8, n)) &",
+        b"at_bit(0, 0x4, 8, n)) &",
+        b"0x4, 8",
+    ),
 ];
+
+// Whether reading stops at these words where the text is edited.
+fn stops_at(alloc: Global, old: &[u8], new: &[u8], stops: &[u8]) -> Result<bool, NoMemory> {
+    let text = edited(alloc, INDEXED, old, new)?;
+    Ok(syntax_at(alloc, text.as_slice()) == place_of(text.as_slice(), stops))
+}
 
 #[test]
 fn version_two_refused_where_it_is_edited(rt: HostRuntime) -> Result<(), Fail> {
-    for &(old, new, stops) in EDITED {
-        let Some((before, after)) = INDEXED.split_once(old) else {
-            continue;
-        };
-        let text = format!(in rt.alloc(); "{before}{new}{after}")?;
-        assert!(rt;
-            syntax_at(rt.alloc(), text.as_str()) == text.find(stops),
-            "{new}"
-        );
+    for (place, &(old, new, stops)) in EDITED.iter().enumerate() {
+        assert!(rt; stops_at(rt.alloc(), old, new, stops)?, "{place}");
     }
     Ok(())
 }
 
 // Where reading stopped, for a text that is no crate.
-fn syntax_at(alloc: Global, text: &str) -> Option<usize> {
-    match parse_crate(alloc, text.as_bytes()) {
+fn syntax_at(alloc: Global, text: &[u8]) -> Option<usize> {
+    match parse_crate(alloc, text) {
         Err(ParseFault::Syntax { at }) => Some(at),
         _ => None,
     }
 }
 
 // Texts, and the byte at which each stops being a crate.
-const WORDS: &[(&str, Option<usize>)] = &[
-    ("", Some(0)),
-    ("use crate::generic::*;", Some(22)),
+const WORDS: &[(&[u8], Option<usize>)] = &[
+    (b"", Some(0)),
+    (b"use crate::generic::*;", Some(22)),
     // other white space, and a comment with a letter in it that is no ASCII
     (
-        "use// \u{fc}\ncrate::generic::*;\tpub\r\nstruct Peripherals{}//",
+        b"use// \xC3\xBC\ncrate::generic::*;\tpub\r\nstruct Peripherals{}//",
         None,
     ),
 ];
 
 #[test]
 fn edited_text_refused(rt: HostRuntime) -> Result<(), Fail> {
-    for &(text, at) in WORDS {
-        assert!(rt; syntax_at(rt.alloc(), text) == at, "{text}");
+    for (place, &(text, at)) in WORDS.iter().enumerate() {
+        assert!(rt; syntax_at(rt.alloc(), text) == at, "{place}");
     }
-    let twice = format!(in rt.alloc(); "{EXAMPLE}{EXAMPLE}")?;
-    assert!(rt; syntax_at(rt.alloc(), twice.as_str()) == Some(1142));
+    let twice = joined(rt.alloc(), &[EXAMPLE, EXAMPLE])?;
+    assert!(rt; syntax_at(rt.alloc(), twice.as_slice()) == Some(1142));
     Ok(())
 }
 
-const BLOCK: &str =
-    "pub mod b { use crate::generic::*; #[repr(C)] pub struct RegisterBlock {} impl RegisterBlock {}";
+const BLOCK: &[u8] =
+    b"pub mod b { use crate::generic::*; #[repr(C)] pub struct RegisterBlock {} impl RegisterBlock {}";
 
 // A crate with so many block modules, one in another, of which the last `left` stay open.
-fn nested(alloc: Global, depth: usize, left: usize) -> Result<String, Fail> {
-    let mut text = String::from_str(alloc, "use crate::generic::*; pub struct Peripherals {}")?;
+fn nested(alloc: Global, depth: usize, left: usize) -> Result<Vec<u8>, NoMemory> {
+    let mut text = Vec::from_slice(alloc, b"use crate::generic::*; pub struct Peripherals {}")?;
     for _ in 0..depth {
-        text.push_str(BLOCK)?;
+        text.extend_from_slice(BLOCK)?;
     }
     for _ in left..depth {
-        text.push_str("}")?;
+        text.push(b'}')?;
     }
     Ok(text)
+}
+
+// What a text is: a crate, or no crate or one that nests too deep from this byte on.
+fn said(alloc: Global, text: &[u8]) -> (&'static str, usize) {
+    match parse_crate(alloc, text) {
+        Ok(_) => ("crate", 0),
+        Err(ParseFault::Syntax { at }) => ("syntax", at),
+        Err(ParseFault::TooDeep { at }) => ("too deep", at),
+        Err(_) => ("no memory", 0),
+    }
 }
 
 #[test]
 fn modules_nest_64_deep(rt: HostRuntime) -> Result<(), Fail> {
     let most = nested(rt.alloc(), 64, 0)?;
-    assert!(rt; parse_crate(rt.alloc(), most.as_bytes()).is_ok());
+    assert!(rt; said(rt.alloc(), most.as_slice()) == ("crate", 0));
     let more = nested(rt.alloc(), 65, 0)?;
     let place = 48 + 64 * BLOCK.len();
-    let deep =
-        matches!(parse_crate(rt.alloc(), more.as_bytes()), Err(ParseFault::TooDeep { at }) if at == place);
-    assert!(rt; deep);
+    assert!(rt; said(rt.alloc(), more.as_slice()) == ("too deep", place));
     let broken = nested(rt.alloc(), 65, 1)?;
-    assert!(rt; syntax_at(rt.alloc(), broken.as_str()) == Some(broken.len()));
+    assert!(rt; said(rt.alloc(), broken.as_slice()) == ("syntax", broken.len()));
     Ok(())
 }

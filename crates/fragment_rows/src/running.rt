@@ -3,13 +3,14 @@ ghost use Rattle.frag_sem.specs.ScriptTyping.{script_fault};
 ghost use Rattle.frag_sem.specs.TextSurface.{text_surface};
 ghost use Rattle.frag_tree.specs.Trees.{crate_tree};
 
+use crate::buses::{failing, memory, zeros};
 use crate::crate_text::EXAMPLE;
 use crate::texts::{CHANNELS, OVERLAID, TIMERS, of_version_two, typed, typed_script, worked_array};
 use frag_eval::{BusFault, Ready, Role, Running, Stage, begin, prepare, run, step};
 use frag_tree::{Event, Events, Said};
-use frag_types::{TypedCrate, TypedScript};
+use frag_types::{CrateFault, TypedCrate, TypedScript};
 use pac_base::{NoMemory, Width};
-use pac_bus::{AnyBus, Bus, FailBus, MemBus, ZeroBus};
+use pac_bus::{AnyBus, Bus};
 use std::alloc::Global;
 use std::test::Fail;
 
@@ -22,22 +23,25 @@ enum Row {
     Number(u64),
 }
 
+// A script, and its events.
+type Run = (&'static [u8], &'static [Row]);
+
 // Scripts against the worked text, and their events over a bus of bytes.
-const RUNS: &[(&str, &[Row])] = &[
+const RUNS: &[Run] = &[
     // a one clears the first field, so a write starts with it at 0
     (
-        "T.sr().write(|w| w.f1().set_bit());",
+        b"T.sr().write(|w| w.f1().set_bit());",
         &[Row::Write(0x4000_0000, 32, 2)],
     ),
     (
-        "T.sr().modify(|_, w| w.f1().clear_bit());",
+        b"T.sr().modify(|_, w| w.f1().clear_bit());",
         &[
             Row::Read(0x4000_0000, 32, 3),
             Row::Write(0x4000_0000, 32, 0),
         ],
     ),
     (
-        "T.sr().modify(|r, w| w.f1().bit(!r.f1().bit()).f0().clear_bit_by_one());",
+        b"T.sr().modify(|r, w| w.f1().bit(!r.f1().bit()).f0().clear_bit_by_one());",
         &[
             Row::Read(0x4000_0000, 32, 3),
             Row::Write(0x4000_0000, 32, 1),
@@ -45,7 +49,7 @@ const RUNS: &[(&str, &[Row])] = &[
     ),
     // it reads, binds and says
     (
-        "let s = T.sr().read();\nsay(s.f0().bit_is_set());\nsay(s.bits());\nsay(!!!s.f1().bit());",
+        b"let s = T.sr().read();\nsay(s.f0().bit_is_set());\nsay(s.bits());\nsay(!!!s.f1().bit());",
         &[
             Row::Read(0x4000_0000, 32, 3),
             Row::Truth(true),
@@ -54,23 +58,23 @@ const RUNS: &[(&str, &[Row])] = &[
         ],
     ),
     (
-        "T.sr().reset();\nT.sr().write_with_zero(|w| w.bits(0xff));",
+        b"T.sr().reset();\nT.sr().write_with_zero(|w| w.bits(0xff));",
         &[
             Row::Write(0x4000_0000, 32, 3),
             Row::Write(0x4000_0000, 32, 0xff),
         ],
     ),
-    ("say(7);", &[Row::Number(7)]),
+    (b"say(7);", &[Row::Number(7)]),
 ];
 
 // Scripts against the text of version 2, whose reset word is 0x113 and whose bit 4 is cleared by a one.
-const INDEXED_RUNS: &[(&str, &[Row])] = &[
+const INDEXED_RUNS: &[Run] = &[
     (
-        "D.en().write(|w| w.ch(7).set_bit().lv(3).bits(2));",
+        b"D.en().write(|w| w.ch(7).set_bit().lv(3).bits(2));",
         &[Row::Write(0x5000_0000, 32, 0x1200_0103)],
     ),
     (
-        "let s = D.en().read();\nsay(s.ch(1).bit());\nsay(s.ch(3).bit_is_clear());\nsay(s.lv(1).bits());\nsay(s.lv(0).bits());",
+        b"let s = D.en().read();\nsay(s.ch(1).bit());\nsay(s.ch(3).bit_is_clear());\nsay(s.lv(1).bits());\nsay(s.lv(0).bits());",
         &[
             Row::Read(0x5000_0000, 32, 0x113),
             Row::Truth(true),
@@ -80,7 +84,7 @@ const INDEXED_RUNS: &[(&str, &[Row])] = &[
         ],
     ),
     (
-        "D.en().modify(|r, w| w.lv(2).bits(r.lv(0).bits()).ch(0).bit(!r.ch(0).bit()));",
+        b"D.en().modify(|r, w| w.lv(2).bits(r.lv(0).bits()).ch(0).bit(!r.ch(0).bit()));",
         &[
             Row::Read(0x5000_0000, 32, 0x113),
             Row::Write(0x5000_0000, 32, 0x3_0102),
@@ -88,16 +92,16 @@ const INDEXED_RUNS: &[(&str, &[Row])] = &[
     ),
     // a number is cut to the bits of its field
     (
-        "D.en().write(|w| w.lv(1).bits(254));",
+        b"D.en().write(|w| w.lv(1).bits(254));",
         &[Row::Write(0x5000_0000, 32, 0x203)],
     ),
 ];
 
 // Scripts against registers over the same bytes: the reset word of each that is called is set once, in the
 // order of the first calls.
-const OVERLAID_RUNS: &[(&str, &[Row])] = &[
+const OVERLAID_RUNS: &[Run] = &[
     (
-        "let a = T.a().read();\nlet b = T.b().read();\nlet c = T.a().read();",
+        b"let a = T.a().read();\nlet b = T.b().read();\nlet c = T.a().read();",
         &[
             Row::Read(0x4000_0000, 32, 0x1122_33ff),
             Row::Read(0x4000_0000, 8, 0xff),
@@ -105,7 +109,7 @@ const OVERLAID_RUNS: &[(&str, &[Row])] = &[
         ],
     ),
     (
-        "let b = T.b().read();\nlet a = T.a().read();",
+        b"let b = T.b().read();\nlet a = T.a().read();",
         &[
             Row::Read(0x4000_0000, 8, 0x44),
             Row::Read(0x4000_0000, 32, 0x1122_3344),
@@ -113,7 +117,7 @@ const OVERLAID_RUNS: &[(&str, &[Row])] = &[
     ),
     // little end first
     (
-        "T.a().write_with_zero(|w| w.bits(0xa1b2_c3d4));\nlet b = T.b().read();\nlet h = T.h().read();\nT.b().write_with_zero(|w| w.bits(0x5a));\nlet a = T.a().read();\nlet q = T.q().read();",
+        b"T.a().write_with_zero(|w| w.bits(0xa1b2_c3d4));\nlet b = T.b().read();\nlet h = T.h().read();\nT.b().write_with_zero(|w| w.bits(0x5a));\nlet a = T.a().read();\nlet q = T.q().read();",
         &[
             Row::Write(0x4000_0000, 32, 0xa1b2_c3d4),
             Row::Read(0x4000_0000, 8, 0xd4),
@@ -159,11 +163,11 @@ fn are_rows(events: &Events, rows: &[Row]) -> bool {
 }
 
 // Runs a script to its end.
-fn ran<B: Bus>(
+fn ran(
     alloc: Global,
     krate: &TypedCrate,
     script: TypedScript,
-    bus: &mut B,
+    bus: &mut AnyBus,
 ) -> Result<Result<Events, BusFault>, NoMemory>
     requires { script_fault (text_surface (crate_tree krate.now)) script ≡ None }
 {
@@ -173,30 +177,54 @@ fn ran<B: Bus>(
     }
 }
 
-// Whether the script has these events over this bus.
-fn gives<B: Bus>(
-    alloc: Global,
-    krate: &TypedCrate,
-    script: &str,
-    bus: &mut B,
-    rows: &[Row],
-) -> Result<bool, Fail> {
-    let script = typed_script(alloc, krate, script)?;
-    match ran(alloc, krate, script, bus)? {
-        Ok(events) => Ok(are_rows(&events, rows)),
-        Err(_) => Ok(false),
+fn ends(ran: &Result<Result<Events, BusFault>, NoMemory>, rows: &[Row]) -> bool {
+    match ran {
+        Ok(Ok(events)) => are_rows(events, rows),
+        _ => false,
     }
 }
 
+// Whether the script has these events over this bus.
+fn gives(alloc: Global, krate: &TypedCrate, script: &[u8], bus: &mut AnyBus, rows: &[Row]) -> bool {
+    match typed_script(alloc, krate, script) {
+        Ok(script) => ends(&ran(alloc, krate, script, bus), rows),
+        Err(_) => false,
+    }
+}
+
+// Whether the script has these events over a bus of bytes.
+fn gives_over_bytes(alloc: Global, krate: &TypedCrate, script: &[u8], rows: &[Row]) -> bool {
+    match memory(alloc) {
+        Ok(mut bus) => gives(alloc, krate, script, &mut bus, rows),
+        Err(_) => false,
+    }
+}
+
+// The place of the first script that hasn't its events, at once or by steps; how many there are where all have.
+fn first_wrong(alloc: Global, text: &[u8], runs: &[Run]) -> Result<usize, CrateFault> {
+    let krate = typed(alloc, text)?;
+    for (place, &(script, rows)) in runs.iter().enumerate() {
+        if !gives_over_bytes(alloc, &krate, script, rows)
+            || !gives_by_steps(alloc, &krate, script, rows)
+        {
+            return Ok(place);
+        }
+    }
+    Ok(runs.len())
+}
+
+// Crate texts, with their scripts.
+const TEXTS: &[(&[u8], &[Run])] = &[
+    (EXAMPLE, RUNS),
+    (CHANNELS, INDEXED_RUNS),
+    (OVERLAID, OVERLAID_RUNS),
+];
+
 #[test]
 fn events_of_scripts(rt: HostRuntime) -> Result<(), Fail> {
-    let krate = typed(rt.alloc(), EXAMPLE)?;
-    for &(script, rows) in RUNS {
-        let mut bus = MemBus::new(rt.alloc());
-        assert!(rt;
-            gives(rt.alloc(), &krate, script, &mut bus, rows)?,
-            "{script}"
-        );
+    for &(text, runs) in TEXTS {
+        let wrong = first_wrong(rt.alloc(), text, runs)?;
+        assert!(rt; wrong == runs.len(), "{wrong}");
     }
     Ok(())
 }
@@ -204,67 +232,49 @@ fn events_of_scripts(rt: HostRuntime) -> Result<(), Fail> {
 #[test]
 fn version_two_keeps_the_events(rt: HostRuntime) -> Result<(), Fail> {
     let text = of_version_two(rt.alloc(), EXAMPLE)?;
-    let krate = typed(rt.alloc(), text.as_str())?;
-    for &(script, rows) in RUNS {
-        let mut bus = MemBus::new(rt.alloc());
-        assert!(rt;
-            gives(rt.alloc(), &krate, script, &mut bus, rows)?,
-            "{script}"
-        );
-    }
+    let wrong = first_wrong(rt.alloc(), text.as_slice(), RUNS)?;
+    assert!(rt; wrong == RUNS.len(), "{wrong}");
     Ok(())
+}
+
+const ARRAY_RUNS: &[Run] = &[(
+    b"T.sr().write(|w| w.f1(2).set_bit());",
+    &[Row::Write(0x4000_0000, 32, 0x202)],
+)];
+
+const ZERO_RUNS: &[Run] = &[(
+    b"T.sr().reset();\nlet s = T.sr().read();\nsay(s.bits());",
+    &[
+        Row::Write(0x4000_0000, 32, 3),
+        Row::Read(0x4000_0000, 32, 0),
+        Row::Number(0),
+    ],
+)];
+
+// Whether the scripts have these events over a bus of zeros.
+fn give_over_zeros(alloc: Global, text: &[u8], runs: &[Run]) -> Result<bool, CrateFault> {
+    let krate = typed(alloc, text)?;
+    let Ok(mut bus) = zeros(alloc) else {
+        return Ok(false);
+    };
+    for &(script, rows) in runs {
+        if !gives(alloc, &krate, script, &mut bus, rows) {
+            return Ok(false);
+        }
+    }
+    Ok(true)
 }
 
 #[test]
 fn an_array_in_the_worked_text(rt: HostRuntime) -> Result<(), Fail> {
-    let text = worked_array(rt.alloc(), "8")?;
-    let krate = typed(rt.alloc(), text.as_str())?;
-    let script = "T.sr().write(|w| w.f1(2).set_bit());";
-    let rows = [Row::Write(0x4000_0000, 32, 0x202)];
-    let mut bus = ZeroBus::new(rt.alloc());
-    assert!(rt; gives(rt.alloc(), &krate, script, &mut bus, rows.as_slice())?);
-    Ok(())
-}
-
-#[test]
-fn events_of_indexed_calls(rt: HostRuntime) -> Result<(), Fail> {
-    let krate = typed(rt.alloc(), CHANNELS)?;
-    for &(script, rows) in INDEXED_RUNS {
-        let mut bus = MemBus::new(rt.alloc());
-        assert!(rt;
-            gives(rt.alloc(), &krate, script, &mut bus, rows)?,
-            "{script}"
-        );
-    }
-    Ok(())
-}
-
-#[test]
-fn registers_over_the_same_bytes(rt: HostRuntime) -> Result<(), Fail> {
-    let krate = typed(rt.alloc(), OVERLAID)?;
-    for &(script, rows) in OVERLAID_RUNS {
-        let mut bus = MemBus::new(rt.alloc());
-        assert!(rt;
-            gives(rt.alloc(), &krate, script, &mut bus, rows)?,
-            "{script}"
-        );
-    }
+    let text = worked_array(rt.alloc(), b"8")?;
+    assert!(rt; give_over_zeros(rt.alloc(), text.as_slice(), ARRAY_RUNS)?);
     Ok(())
 }
 
 #[test]
 fn zeros_whatever_is_written(rt: HostRuntime) -> Result<(), Fail> {
-    let krate = typed(rt.alloc(), EXAMPLE)?;
-    let mut bus = AnyBus {
-        bus: Box::new(rt.alloc(), ZeroBus::new(rt.alloc()))?,
-    };
-    let script = "T.sr().reset();\nlet s = T.sr().read();\nsay(s.bits());";
-    let rows = [
-        Row::Write(0x4000_0000, 32, 3),
-        Row::Read(0x4000_0000, 32, 0),
-        Row::Number(0),
-    ];
-    assert!(rt; gives(rt.alloc(), &krate, script, &mut bus, rows.as_slice())?);
+    assert!(rt; give_over_zeros(rt.alloc(), EXAMPLE, ZERO_RUNS)?);
     Ok(())
 }
 
@@ -275,55 +285,59 @@ const BEFORE: &[Row] = &[
     Row::Write(0x4000_0000, 32, 3),
 ];
 
-fn stopped(ran: &Result<Events, BusFault>) -> bool {
+const STOPPED: &[u8] =
+    b"let s = T.sr().read();\nsay(s.f1().bit());\nT.sr().reset();\nT.sr().reset();\nT.sr().reset();";
+
+fn stopped(ran: &Result<Result<Events, BusFault>, NoMemory>) -> bool {
     match ran {
-        Ok(_) => false,
-        Err(fault) => fault.done == 3 && are_rows(&fault.events, BEFORE),
+        Ok(Err(fault)) => fault.done == 3 && are_rows(&fault.events, BEFORE),
+        _ => false,
+    }
+}
+
+// Whether the script stops at the third access.
+fn stops(alloc: Global, krate: &TypedCrate, bus: &mut AnyBus) -> bool {
+    match typed_script(alloc, krate, STOPPED) {
+        Ok(script) => stopped(&ran(alloc, krate, script, bus)),
+        Err(_) => false,
     }
 }
 
 #[test]
 fn a_bus_that_fails_at_a_write(rt: HostRuntime) -> Result<(), Fail> {
     let krate = typed(rt.alloc(), EXAMPLE)?;
-    let script =
-        "let s = T.sr().read();\nsay(s.f1().bit());\nT.sr().reset();\nT.sr().reset();\nT.sr().reset();";
-    let script = typed_script(rt.alloc(), &krate, script)?;
-    let mut bus = FailBus::new(rt.alloc());
-    bus.fail(3)?;
-    let end = ran(rt.alloc(), &krate, script, &mut bus)?;
-    assert!(rt; stopped(&end));
+    let mut bus = failing(rt.alloc(), &[3])?;
+    assert!(rt; stops(rt.alloc(), &krate, &mut bus));
     Ok(())
 }
 
 // The run behind its next access, if the bus doesn't fail.
-fn stepped<B: Bus>(running: Running, bus: &mut B) -> Result<Option<Stage>, NoMemory> {
-    bus.ready(1)?;
+fn stepped(running: Running, bus: &mut AnyBus) -> Option<Stage> {
+    if bus.ready(1).is_err() {
+        return None;
+    }
     match step(running, bus) {
-        Ok(stage) => Ok(Some(stage)),
-        Err(_) => Ok(None),
+        Ok(stage) => Some(stage),
+        Err(_) => None,
     }
 }
 
-// Makes so many accesses, one by one, and tells whether all was done then, with these events.
-fn gives_by_steps<B: Bus>(
-    ready: Ready,
-    bus: &mut B,
-    accesses: usize,
-    rows: &[Row],
-) -> Result<bool, NoMemory> {
+// The run behind so many accesses, made one by one, if there are as many and the bus doesn't fail.
+fn behind(ready: Ready, bus: &mut AnyBus, accesses: usize) -> Option<Stage> {
     let mut stage = begin(ready);
     for _ in 0..accesses {
-        let Stage::Running(running) = stage else {
-            return Ok(false);
-        };
-        let Some(next) = stepped(running, bus)? else {
-            return Ok(false);
-        };
-        stage = next;
+        match stage {
+            Stage::Running(running) => stage = stepped(running, bus)?,
+            Stage::Done(_) => return None,
+        }
     }
+    Some(stage)
+}
+
+fn is_done(stage: &Option<Stage>, rows: &[Row]) -> bool {
     match stage {
-        Stage::Done(events) => Ok(are_rows(&events, rows)),
-        Stage::Running(_) => Ok(false),
+        Some(Stage::Done(events)) => are_rows(events, rows),
+        _ => false,
     }
 }
 
@@ -333,31 +347,22 @@ fn accesses(rows: &[Row]) -> usize {
         .count()
 }
 
-fn gives_alike(
-    alloc: Global,
-    krate: &TypedCrate,
-    script: &str,
-    rows: &[Row],
-) -> Result<bool, Fail> {
-    let mut bus = MemBus::new(alloc);
-    let script = typed_script(alloc, krate, script)?;
+// Whether all is done behind the accesses of these events, made one by one over a bus of bytes, with these events.
+fn gives_by_steps(alloc: Global, krate: &TypedCrate, script: &[u8], rows: &[Row]) -> bool {
+    let Ok(mut bus) = memory(alloc) else {
+        return false;
+    };
+    let Ok(script) = typed_script(alloc, krate, script) else {
+        return false;
+    };
     match prepare(alloc, krate, script, &mut bus) {
-        Ok(ready) => Ok(gives_by_steps(ready, &mut bus, accesses(rows), rows)?),
-        Err(back) => Err(back.fault)?,
+        Ok(ready) => is_done(&behind(ready, &mut bus, accesses(rows)), rows),
+        Err(_) => false,
     }
-}
-
-#[test]
-fn the_same_events_by_steps(rt: HostRuntime) -> Result<(), Fail> {
-    let krate = typed(rt.alloc(), EXAMPLE)?;
-    for &(script, rows) in RUNS {
-        assert!(rt; gives_alike(rt.alloc(), &krate, script, rows)?, "{script}");
-    }
-    Ok(())
 }
 
 // The vendor's script, and its events.
-const VENDOR: &str = "TIM2.cr1().modify(|_, w| w.cen().enabled().ckd().bits(2));
+const VENDOR: &[u8] = b"TIM2.cr1().modify(|_, w| w.cen().enabled().ckd().bits(2));
 let s = TIM3.sr().read();
 say(s.uif().bit_is_set());
 TIM3.sr().write(|w| w.uif().clear_bit());
@@ -374,36 +379,38 @@ const VENDOR_ROWS: &[Row] = &[
 ];
 
 // Whether five steps make the vendor's events, the third of them what is said too.
-fn gives_in_five<B: Bus>(ready: Ready, bus: &mut B) -> Result<bool, NoMemory> {
+fn gives_in_five(ready: Ready, bus: &mut AnyBus) -> bool {
     let mut stage = begin(ready);
     for made in [0, 1, 2, 4, 5] {
         let Stage::Running(running) = stage else {
-            return Ok(false);
+            return false;
         };
         if running.made().len() != made {
-            return Ok(false);
+            return false;
         }
-        let Some(next) = stepped(running, bus)? else {
-            return Ok(false);
+        let Some(next) = stepped(running, bus) else {
+            return false;
         };
         stage = next;
     }
-    match stage {
-        Stage::Done(events) => Ok(are_rows(&events, VENDOR_ROWS)),
-        Stage::Running(_) => Ok(false),
+    is_done(&Some(stage), VENDOR_ROWS)
+}
+
+fn vendors_events(alloc: Global, krate: &TypedCrate, bus: &mut AnyBus) -> bool {
+    match typed_script(alloc, krate, VENDOR) {
+        Ok(script) => match prepare(alloc, krate, script, bus) {
+            Ok(ready) => gives_in_five(ready, bus),
+            Err(_) => false,
+        },
+        Err(_) => false,
     }
 }
 
 #[test]
 fn the_vendors_events_in_five_steps(rt: HostRuntime) -> Result<(), Fail> {
     let krate = typed(rt.alloc(), TIMERS)?;
-    let script = typed_script(rt.alloc(), &krate, VENDOR)?;
-    let mut bus = ZeroBus::new(rt.alloc());
-    let went = match prepare(rt.alloc(), &krate, script, &mut bus) {
-        Ok(ready) => gives_in_five(ready, &mut bus)?,
-        Err(_) => false,
-    };
-    assert!(rt; went);
+    let mut bus = zeros(rt.alloc())?;
+    assert!(rt; vendors_events(rt.alloc(), &krate, &mut bus));
     Ok(())
 }
 
@@ -413,47 +420,51 @@ fn is_before_write(running: &Running) -> bool {
 }
 
 // The run as it comes back from an access that fails.
-fn refused<B: Bus>(running: Running, bus: &mut B) -> Result<Option<Running>, NoMemory> {
-    bus.ready(1)?;
+fn refused(running: Running, bus: &mut AnyBus) -> Option<Running> {
+    if bus.ready(1).is_err() {
+        return None;
+    }
     match step(running, bus) {
-        Ok(_) => Ok(None),
-        Err(back) => Ok(Some(back.state)),
+        Ok(_) => None,
+        Err(back) => Some(back.state),
+    }
+}
+
+// The run behind a first access and two that fail.
+fn twice_refused(ready: Ready, bus: &mut AnyBus) -> Option<Running> {
+    match begin(ready) {
+        Stage::Running(first) => match stepped(first, bus)? {
+            Stage::Running(second) => refused(refused(second, bus)?, bus),
+            Stage::Done(_) => None,
+        },
+        Stage::Done(_) => None,
     }
 }
 
 // Whether the second access fails twice, leaves the run before its write, and can then be made.
-fn goes_on<B: Bus>(ready: Ready, bus: &mut B) -> Result<bool, NoMemory> {
-    let Stage::Running(first) = begin(ready) else {
-        return Ok(false);
-    };
-    let Some(Stage::Running(second)) = stepped(first, bus)? else {
-        return Ok(false);
-    };
-    let Some(back) = refused(second, bus)? else {
-        return Ok(false);
-    };
-    let Some(again) = refused(back, bus)? else {
-        return Ok(false);
-    };
-    let stands = is_before_write(&again);
-    Ok(stands && matches!(stepped(again, bus)?, Some(Stage::Done(_))))
+fn goes_on(ready: Ready, bus: &mut AnyBus) -> bool {
+    match twice_refused(ready, bus) {
+        Some(running) => {
+            is_before_write(&running) && matches!(stepped(running, bus), Some(Stage::Done(_)))
+        }
+        None => false,
+    }
+}
+
+fn goes_on_behind(alloc: Global, krate: &TypedCrate, bus: &mut AnyBus) -> bool {
+    match typed_script(alloc, krate, b"\nT.sr().modify(|_, w| w.f1().set_bit());") {
+        Ok(script) => match prepare(alloc, krate, script, bus) {
+            Ok(ready) => goes_on(ready, bus),
+            Err(_) => false,
+        },
+        Err(_) => false,
+    }
 }
 
 #[test]
 fn a_run_goes_on_behind_a_failed_access(rt: HostRuntime) -> Result<(), Fail> {
     let krate = typed(rt.alloc(), EXAMPLE)?;
-    let script = typed_script(
-        rt.alloc(),
-        &krate,
-        "\nT.sr().modify(|_, w| w.f1().set_bit());",
-    )?;
-    let mut bus = FailBus::new(rt.alloc());
-    bus.fail(2)?;
-    bus.fail(3)?;
-    let went = match prepare(rt.alloc(), &krate, script, &mut bus) {
-        Ok(ready) => goes_on(ready, &mut bus)?,
-        Err(_) => false,
-    };
-    assert!(rt; went);
+    let mut bus = failing(rt.alloc(), &[2, 3])?;
+    assert!(rt; goes_on_behind(rt.alloc(), &krate, &mut bus));
     Ok(())
 }

@@ -7,12 +7,12 @@ use crate::crate_text::EXAMPLE;
 use frag_parse::parse_crate;
 use frag_script::{ScriptFault, parse_script};
 use frag_types::{CrateFault, TypedCrate, TypedScript, type_crate, type_script};
+use pac_base::NoMemory;
 use std::alloc::Global;
-use std::test::Fail;
 
 /// A text of version 1 that fits, with numbers that just fit: a register of 8 bits with a bit and a number,
 /// whose values have calls, a cluster that is an array, and two accessors with places of their own.
-pub(crate) const VALUED: &str = "use crate::generic::*;
+pub(crate) const VALUED: &[u8] = b"use crate::generic::*;
 pub struct Peripherals {
     pub S: Periph<t::RegisterBlock, 0xffffffffffffff00>,
     pub T: Periph<t::RegisterBlock, 0x40000000>,
@@ -84,7 +84,7 @@ pub mod t {
 ";
 
 /// A text of version 2 that fits, with a bit and a number whose calls take an index.
-pub(crate) const CHANNELS: &str = "pub const CRATE_TEXT: u32 = 0x2;
+pub(crate) const CHANNELS: &[u8] = b"pub const CRATE_TEXT: u32 = 0x2;
 use crate::generic::*;
 pub struct Peripherals {
     pub D: Periph<d::RegisterBlock, 0x50000000>,
@@ -120,7 +120,7 @@ pub mod d {
 ";
 
 /// A text of version 1 that fits, with registers of all four widths over the same bytes.
-pub(crate) const OVERLAID: &str = "use crate::generic::*;
+pub(crate) const OVERLAID: &[u8] = b"use crate::generic::*;
 pub struct Peripherals {
     pub T: Periph<t::RegisterBlock, 0x40000000>,
 }
@@ -188,7 +188,7 @@ pub mod t {
 ";
 
 /// The part of the text for the vendor's description, its patch applied, that the vendor's script calls.
-pub(crate) const TIMERS: &str = "use crate::generic::*;
+pub(crate) const TIMERS: &[u8] = b"use crate::generic::*;
 pub struct Peripherals {
     pub TIM2: Periph<tim::RegisterBlock, 0x40000000>,
     pub TIM3: Periph<tim::RegisterBlock, 0x40000400>,
@@ -265,8 +265,8 @@ pub mod tim {
 ";
 
 /// The crate of a text, where it fits. A text of no crate is answered with `Syntax`.
-pub(crate) fn typed(alloc: Global, text: &str) -> Result<TypedCrate, CrateFault> {
-    let krate = match parse_crate(alloc, text.as_bytes()) {
+pub(crate) fn typed(alloc: Global, text: &[u8]) -> Result<TypedCrate, CrateFault> {
+    let krate = match parse_crate(alloc, text) {
         Ok(krate) => krate,
         Err(_) => return Err(CrateFault::Syntax { at: 0 }),
     };
@@ -280,36 +280,71 @@ pub(crate) fn typed(alloc: Global, text: &str) -> Result<TypedCrate, CrateFault>
 pub(crate) fn typed_script(
     alloc: Global,
     krate: &TypedCrate,
-    text: &str,
+    text: &[u8],
 ) -> Result<TypedScript, ScriptFault>
     ensures { IfOk result (λ typed. script_fault (text_surface (crate_tree krate.now)) typed ≡ None) }
 {
     if text.len() > 67_108_864 {
         return Err(ScriptFault::TooLong { count: 0 });
     }
-    let script = parse_script(alloc, text.as_bytes())?;
+    let script = parse_script(alloc, text)?;
     match type_script(alloc, krate, script) {
         Ok(typed) => Ok(typed),
         Err(back) => Err(back.fault),
     }
 }
 
-/// The text with some words in the place of others, once.
-pub(crate) fn edited(alloc: Global, text: &str, old: &str, new: &str) -> Result<String, Fail> {
-    let (before, after) = text.split_once(old).unwrap_or(("", ""));
-    Ok(format!(in alloc; "{before}{new}{after}")?)
+/// The parts one behind the other.
+pub(crate) fn joined(alloc: Global, parts: &[&[u8]]) -> Result<Vec<u8>, NoMemory> {
+    let mut text = Vec::new(alloc);
+    for part in parts {
+        text.extend_from_slice(part)?;
+    }
+    Ok(text)
+}
+
+/// What stands in front of a part of a text, where it stands first, and what stands behind it.
+fn split_around<'a>(text: &'a [u8], part: &[u8]) -> Option<(&'a [u8], &'a [u8])> {
+    for place in 0..text.len() {
+        let (before, rest) = text.split_at(place);
+        if let Some(after) = rest.strip_prefix(part) {
+            return Some((before, after));
+        }
+    }
+    None
+}
+
+/// The byte at which a part of a text first begins, if it stands in it.
+pub(crate) fn place_of(text: &[u8], part: &[u8]) -> Option<usize> {
+    match split_around(text, part) {
+        Some((before, _)) => Some(before.len()),
+        None => None,
+    }
+}
+
+/// The text with some words in the place of others, once. Nothing, where it doesn't have them.
+pub(crate) fn edited(
+    alloc: Global,
+    text: &[u8],
+    old: &[u8],
+    new: &[u8],
+) -> Result<Vec<u8>, NoMemory> {
+    match split_around(text, old) {
+        Some((before, after)) => joined(alloc, &[before, new, after]),
+        None => Ok(Vec::new(alloc)),
+    }
 }
 
 /// The text as one of version 2.
-pub(crate) fn of_version_two(alloc: Global, text: &str) -> Result<String, Fail> {
-    Ok(format!(in alloc; "pub const CRATE_TEXT: u32 = 0x2;\n{text}")?)
+pub(crate) fn of_version_two(alloc: Global, text: &[u8]) -> Result<Vec<u8>, NoMemory> {
+    joined(alloc, &[b"pub const CRATE_TEXT: u32 = 0x2;\n", text])
 }
 
 /// The worked text, in which the second bit is an array of so many, each four bits behind the one before, for
 /// writes.
-pub(crate) fn worked_array(alloc: Global, count: &str) -> Result<String, Fail> {
-    let call = edited(alloc, EXAMPLE, "f1(&mut self)", "f1(&mut self, n: usize)")?;
-    let spot = format!(in alloc; "self, at_bit(1, 4, {count}, n))")?;
-    let text = edited(alloc, call.as_str(), "self, 1)", spot.as_str())?;
-    of_version_two(alloc, text.as_str())
+pub(crate) fn worked_array(alloc: Global, count: &[u8]) -> Result<Vec<u8>, NoMemory> {
+    let call = edited(alloc, EXAMPLE, b"f1(&mut self)", b"f1(&mut self, n: usize)")?;
+    let spot = joined(alloc, &[b"self, at_bit(1, 4, ", count, b", n))"])?;
+    let text = edited(alloc, call.as_slice(), b"self, 1)", spot.as_slice())?;
+    of_version_two(alloc, text.as_slice())
 }

@@ -1,417 +1,426 @@
-use crate::texts::{CHANNELS, VALUED, edited, typed, worked_array};
+use crate::texts::{CHANNELS, VALUED, edited, place_of, typed, worked_array};
 use frag_types::CrateFault;
 use frag_types::CrateTyping::{self, DoubleName, LiteralRange, TooLarge, UnknownName, WrongType};
+use pac_base::NoMemory;
 use std::alloc::Global;
 use std::test::Fail;
 
-// Names that stand twice: of slots, modules, struct fields, accessors, markers, readers, writers, and of the calls
-// of one type. What is put in the place of what, once in the text of version 1, with the kind of the fault and
-// what begins the item at fault.
-const NAMES: &[(&str, &str, CrateTyping, &str)] = &[
+/// What is put in the place of what, once in a text that fits, with the kind of the fault and what begins the item at
+/// fault.
+type Edit<'a> = (&'a [u8], &'a [u8], CrateTyping, &'a [u8]);
+
+// In the text of version 1, names that stand twice: of slots, modules, struct fields, accessors, markers, readers,
+// writers, and of the calls of one type.
+const NAMES: &[Edit<'static>] = &[
     (
-        "pub S: ",
-        "pub T: ",
+        b"pub S: ",
+        b"pub T: ",
         DoubleName,
-        "pub T: Periph<t::RegisterBlock, 0x4",
+        b"pub T: Periph<t::RegisterBlock, 0x4",
     ),
     (
-        "pub mod c {",
-        "pub mod a {",
+        b"pub mod c {",
+        b"pub mod a {",
         DoubleName,
-        "pub mod a {\n        use crate::generic::*;\n        #",
+        b"pub mod a {\n        use crate::generic::*;\n        #",
     ),
-    ("c: [c::", "a: [c::", DoubleName, "a: [c::"),
+    (b"c: [c::", b"a: [c::", DoubleName, b"a: [c::"),
     (
-        "pub fn x(",
-        "pub fn a(",
+        b"pub fn x(",
+        b"pub fn a(",
         DoubleName,
-        "pub fn a(&self) -> &Reg<a::Spec> { at(",
-    ),
-    (
-        "pub struct M_F",
-        "pub struct E_F",
-        DoubleName,
-        "pub struct E_F;\n        impl R",
+        b"pub fn a(&self) -> &Reg<a::Spec> { at(",
     ),
     (
-        "pub fn m(&self)",
-        "pub fn e(&self)",
+        b"pub struct M_F",
+        b"pub struct E_F",
         DoubleName,
-        "pub fn e(&self) -> FieldReader",
+        b"pub struct E_F;\n        impl R",
     ),
     (
-        "pub fn m(&mut",
-        "pub fn e(&mut",
+        b"pub fn m(&self)",
+        b"pub fn e(&self)",
         DoubleName,
-        "pub fn e(&mut self) -> FieldWriter",
+        b"pub fn e(&self) -> FieldReader",
     ),
     (
-        "== true }",
-        "== true } pub fn is_on(&self) -> bool { self.bit() == false }",
+        b"pub fn m(&mut",
+        b"pub fn e(&mut",
         DoubleName,
-        "pub fn is_on(&self) -> bool { self.bit() == false",
+        b"pub fn e(&mut self) -> FieldWriter",
     ),
     (
-        "impl<'a> BitWriter",
-        "impl BitReader<E_F> { pub fn is_on(&self) -> bool { self.bit() == false } } impl<'a> BitWriter",
+        b"== true }",
+        b"== true } pub fn is_on(&self) -> bool { self.bit() == false }",
         DoubleName,
-        "pub fn is_on(&self) -> bool { self.bit() == false",
+        b"pub fn is_on(&self) -> bool { self.bit() == false",
+    ),
+    (
+        b"impl<'a> BitWriter",
+        b"impl BitReader<E_F> { pub fn is_on(&self) -> bool { self.bit() == false } } impl<'a> BitWriter",
+        DoubleName,
+        b"pub fn is_on(&self) -> bool { self.bit() == false",
     ),
     // a name decides before an address in front of it
     (
-        "0xffffffffffffff00>,\n    pub T",
-        "0xffffffffffffffff>,\n    pub S",
+        b"0xffffffffffffff00>,\n    pub T",
+        b"0xffffffffffffffff>,\n    pub S",
         DoubleName,
-        "pub S: Periph<t::RegisterBlock, 0x4",
+        b"pub S: Periph<t::RegisterBlock, 0x4",
     ),
 ];
 
 // Modules that aren't there, of slots, fields and accessors.
-const MODULES: &[(&str, &str, CrateTyping, &str)] = &[
-    ("S: Periph<t::", "S: Periph<v::", UnknownName, "pub S"),
-    ("T: Periph<t::", "T: Periph<c::", UnknownName, "pub T"),
-    ("a: Reg<a::", "a: Reg<b::", UnknownName, "a: Reg<b::"),
-    ("a: Reg<a::", "a: Reg<c::", UnknownName, "a: Reg<c::"),
-    ("c: [c::", "c: [a::", UnknownName, "c: [a::"),
+const MODULES: &[Edit<'static>] = &[
+    (b"S: Periph<t::", b"S: Periph<v::", UnknownName, b"pub S"),
+    (b"T: Periph<t::", b"T: Periph<c::", UnknownName, b"pub T"),
+    (b"a: Reg<a::", b"a: Reg<b::", UnknownName, b"a: Reg<b::"),
+    (b"a: Reg<a::", b"a: Reg<c::", UnknownName, b"a: Reg<c::"),
+    (b"c: [c::", b"c: [a::", UnknownName, b"c: [a::"),
     (
-        "&Reg<a::Spec> { at(",
-        "&Reg<d::Spec> { at(",
+        b"&Reg<a::Spec> { at(",
+        b"&Reg<d::Spec> { at(",
         UnknownName,
-        "pub fn x(",
+        b"pub fn x(",
     ),
 ];
 
 // Bodies of accessors, and counts.
-const BODIES: &[(&str, &str, CrateTyping, &str)] = &[
-    ("&self.a }", "&self.b }", UnknownName, "pub fn a("),
-    ("&self.a }", "&self._reserved0 }", WrongType, "pub fn a("),
-    ("&self.a }", "&self.c }", WrongType, "pub fn a("),
-    ("&self.c[n]", "&self.a[n]", WrongType, "pub fn c("),
-    ("&self.c[n]", "&self.c", WrongType, "pub fn c("),
+const BODIES: &[Edit<'static>] = &[
+    (b"&self.a }", b"&self.b }", UnknownName, b"pub fn a("),
+    (b"&self.a }", b"&self._reserved0 }", WrongType, b"pub fn a("),
+    (b"&self.a }", b"&self.c }", WrongType, b"pub fn a("),
+    (b"&self.c[n]", b"&self.a[n]", WrongType, b"pub fn c("),
+    (b"&self.c[n]", b"&self.c", WrongType, b"pub fn c("),
     (
-        "pub fn x(&self)",
-        "pub fn x(&self, n: usize)",
+        b"pub fn x(&self)",
+        b"pub fn x(&self, n: usize)",
         WrongType,
-        "pub fn x(",
+        b"pub fn x(",
     ),
     (
-        "pub fn c(&self, n: usize)",
-        "pub fn c(&self)",
+        b"pub fn c(&self, n: usize)",
+        b"pub fn c(&self)",
         WrongType,
-        "pub fn c(",
+        b"pub fn c(",
     ),
     (
-        "&self.a }\n        pub fn c(&self, n: usize) -> &c::RegisterBlock { &self.c[n] }",
-        "&self.c }\n        pub fn c(&self, n: usize) -> &c::RegisterBlock { &self.g[n] }",
+        b"&self.a }\n        pub fn c(&self, n: usize) -> &c::RegisterBlock { &self.c[n] }",
+        b"&self.c }\n        pub fn c(&self, n: usize) -> &c::RegisterBlock { &self.g[n] }",
         UnknownName,
-        "pub fn c(",
+        b"pub fn c(",
     ),
     // counts
     (
-        "RegisterBlock; 2]",
-        "RegisterBlock; 0]",
+        b"RegisterBlock; 2]",
+        b"RegisterBlock; 0]",
         LiteralRange,
-        "c: [c::",
+        b"c: [c::",
     ),
-    ("16, 2, n)", "16, 0, n)", LiteralRange, "pub fn y("),
+    (b"16, 2, n)", b"16, 0, n)", LiteralRange, b"pub fn y("),
 ];
 
 // Constants and readers.
-const READERS: &[(&str, &str, CrateTyping, &str)] = &[
+const READERS: &[Edit<'static>] = &[
     (
-        "RESET_VALUE: u8",
-        "RESET_VALUE: u16",
+        b"RESET_VALUE: u8",
+        b"RESET_VALUE: u16",
         WrongType,
-        "pub mod a {",
+        b"pub mod a {",
     ),
     (
-        "ZERO_TO_MODIFY: u8",
-        "ZERO_TO_MODIFY: u32",
+        b"ZERO_TO_MODIFY: u8",
+        b"ZERO_TO_MODIFY: u32",
         WrongType,
-        "pub mod a {",
+        b"pub mod a {",
     ),
-    ("u8 = 0xff", "u8 = 0x100", LiteralRange, "pub mod a {"),
+    (b"u8 = 0xff", b"u8 = 0x100", LiteralRange, b"pub mod a {"),
     (
-        "0x0; }\n        impl Resettable for Spec { const RESET_VALUE: u8",
-        "0x100; }\n        impl Resettable for Spec { const RESET_VALUE: u16",
+        b"0x0; }\n        impl Resettable for Spec { const RESET_VALUE: u8",
+        b"0x100; }\n        impl Resettable for Spec { const RESET_VALUE: u16",
         WrongType,
-        "pub mod a {",
+        b"pub mod a {",
     ),
     // readers
     (
-        "-> BitReader<E_F>",
-        "-> BitReader<G_F>",
+        b"-> BitReader<E_F>",
+        b"-> BitReader<G_F>",
         UnknownName,
-        "pub fn e(&self",
+        b"pub fn e(&self",
     ),
-    (">> 7)", ">> 8)", LiteralRange, "pub fn e(&self"),
-    ("& 0x1)", "& 0x100)", LiteralRange, "pub fn e(&self"),
-    ("& 0xff)", "& 0x100)", LiteralRange, "pub fn m(&self"),
+    (b">> 7)", b">> 8)", LiteralRange, b"pub fn e(&self"),
+    (b"& 0x1)", b"& 0x100)", LiteralRange, b"pub fn e(&self"),
+    (b"& 0xff)", b"& 0x100)", LiteralRange, b"pub fn m(&self"),
     (
-        ">> 7) & 0x1) != 0x0) }\n            pub fn m(&self) -> FieldReader<M_F",
-        ">> 8) & 0x1) != 0x0) }\n            pub fn m(&self) -> FieldReader<G_F",
+        b">> 7) & 0x1) != 0x0) }\n            pub fn m(&self) -> FieldReader<M_F",
+        b">> 8) & 0x1) != 0x0) }\n            pub fn m(&self) -> FieldReader<G_F",
         UnknownName,
-        "pub fn m(&self",
+        b"pub fn m(&self",
     ),
     // of two readers the first
     (
-        ">> 7) & 0x1) != 0x0) }\n            pub fn m(&self) -> FieldReader<M_F, u8> { FieldReader::new(((self.bits >> 0)",
-        ">> 8) & 0x1) != 0x0) }\n            pub fn m(&self) -> FieldReader<M_F, u8> { FieldReader::new(((self.bits >> 9)",
+        b">> 7) & 0x1) != 0x0) }\n            pub fn m(&self) -> FieldReader<M_F, u8> { FieldReader::new(((self.bits >> 0)",
+        b">> 8) & 0x1) != 0x0) }\n            pub fn m(&self) -> FieldReader<M_F, u8> { FieldReader::new(((self.bits >> 9)",
         LiteralRange,
-        "pub fn e(&self",
+        b"pub fn e(&self",
     ),
 ];
 
 // Writers, and blocks of values.
-const WRITERS: &[(&str, &str, CrateTyping, &str)] = &[
+const WRITERS: &[Edit<'static>] = &[
     (
-        "-> BitWriter<'_, Spec, E_F>",
-        "-> BitWriter<'_, Spec, G_F>",
+        b"-> BitWriter<'_, Spec, E_F>",
+        b"-> BitWriter<'_, Spec, G_F>",
         UnknownName,
-        "pub fn e(&mut",
+        b"pub fn e(&mut",
     ),
-    ("self, 7)", "self, 8)", LiteralRange, "pub fn e(&mut"),
+    (b"self, 7)", b"self, 8)", LiteralRange, b"pub fn e(&mut"),
     (
-        "FieldWriter::new(self, 0)",
-        "FieldWriter::new(self, 1)",
+        b"FieldWriter::new(self, 0)",
+        b"FieldWriter::new(self, 1)",
         LiteralRange,
-        "pub fn m(&mut",
+        b"pub fn m(&mut",
     ),
     (
-        "u8, 8> { FieldWriter",
-        "u8, 0> { FieldWriter",
+        b"u8, 8> { FieldWriter",
+        b"u8, 0> { FieldWriter",
         LiteralRange,
-        "pub fn m(&mut",
+        b"pub fn m(&mut",
     ),
     // blocks of values
     (
-        "impl BitReader<E_F>",
-        "impl BitReader<M_F>",
+        b"impl BitReader<E_F>",
+        b"impl BitReader<M_F>",
         UnknownName,
-        "impl BitReader<M_F>",
+        b"impl BitReader<M_F>",
     ),
     (
-        "impl<'a> BitWriter<",
-        "impl<'a> BitWriter1C<",
+        b"impl<'a> BitWriter<",
+        b"impl<'a> BitWriter1C<",
         UnknownName,
-        "impl<'a> BitWriter1C<",
+        b"impl<'a> BitWriter1C<",
     ),
     (
-        "impl<'a> FieldWriter<'a, Spec, M_F, u8, 8>",
-        "impl<'a> FieldWriter<'a, Spec, M_F, u8, 7>",
+        b"impl<'a> FieldWriter<'a, Spec, M_F, u8, 8>",
+        b"impl<'a> FieldWriter<'a, Spec, M_F, u8, 7>",
         UnknownName,
-        "impl<'a> FieldWriter<",
+        b"impl<'a> FieldWriter<",
     ),
     (
-        "self.bits() == 0xff",
-        "self.bits() == 0x100",
+        b"self.bits() == 0xff",
+        b"self.bits() == 0x100",
         LiteralRange,
-        "pub fn is_fast(",
+        b"pub fn is_fast(",
     ),
     (
-        "self.bits(0xff)",
-        "self.bits(0x100)",
+        b"self.bits(0xff)",
+        b"self.bits(0x100)",
         LiteralRange,
-        "pub fn fast(",
+        b"pub fn fast(",
     ),
     (
-        "self.bits() == 0xff }\n        }\n        impl<'a> BitWriter<",
-        "self.bits() == 0x100 }\n        }\n        impl<'a> BitWriter1C<",
+        b"self.bits() == 0xff }\n        }\n        impl<'a> BitWriter<",
+        b"self.bits() == 0x100 }\n        }\n        impl<'a> BitWriter1C<",
         UnknownName,
-        "impl<'a> BitWriter1C<",
+        b"impl<'a> BitWriter1C<",
     ),
 ];
 
 // Names of the prelude, directions, and ends of registers.
-const CALLS: &[(&str, &str, CrateTyping, &str)] = &[
-    ("pub fn x(", "pub fn at(", DoubleName, "pub fn at("),
+const CALLS: &[Edit<'static>] = &[
+    (b"pub fn x(", b"pub fn at(", DoubleName, b"pub fn at("),
     (
-        "pub fn e(&self)",
-        "pub fn bits(&self)",
+        b"pub fn e(&self)",
+        b"pub fn bits(&self)",
         DoubleName,
-        "pub fn bits(&self)",
+        b"pub fn bits(&self)",
     ),
     (
-        "pub fn m(&mut",
-        "pub fn modify(&mut",
+        b"pub fn m(&mut",
+        b"pub fn modify(&mut",
         DoubleName,
-        "pub fn modify(&mut",
+        b"pub fn modify(&mut",
     ),
-    ("pub fn fast(", "pub fn bit(", DoubleName, "pub fn bit("),
+    (b"pub fn fast(", b"pub fn bit(", DoubleName, b"pub fn bit("),
     // directions
-    ("impl Readable for Spec {}", "", WrongType, "pub mod a {"),
+    (b"impl Readable for Spec {}", b"", WrongType, b"pub mod a {"),
     (
-        "impl Writable for Spec { const ZERO_TO_MODIFY: u8 = 0x0; const ONE_TO_MODIFY: u8 = 0x0; }",
-        "",
+        b"impl Writable for Spec { const ZERO_TO_MODIFY: u8 = 0x0; const ONE_TO_MODIFY: u8 = 0x0; }",
+        b"",
         WrongType,
-        "pub mod a {",
+        b"pub mod a {",
     ),
     (
-        "impl R<Spec> {\n            }",
-        "",
+        b"impl R<Spec> {\n            }",
+        b"",
         WrongType,
-        "pub mod d {",
+        b"pub mod d {",
     ),
     (
-        "impl R<Spec> {\n            }",
-        "impl R<Spec> {} impl W<Spec> {}",
+        b"impl R<Spec> {\n            }",
+        b"impl R<Spec> {} impl W<Spec> {}",
         WrongType,
-        "pub mod d {",
+        b"pub mod d {",
     ),
     // ends of registers: the last begins 0x30 bytes behind its slot
     (
-        "0xffffffffffffff00",
-        "0xffffffffffffffd0",
+        b"0xffffffffffffff00",
+        b"0xffffffffffffffd0",
         TooLarge,
-        "pub S",
+        b"pub S",
     ),
-    ("at(self, 0x20)", "at(self, 0x100)", TooLarge, "pub S"),
+    (b"at(self, 0x20)", b"at(self, 0x100)", TooLarge, b"pub S"),
     (
-        "0x20, 16, 2,",
-        "0x20, 9223372036854775808, 3,",
+        b"0x20, 16, 2,",
+        b"0x20, 9223372036854775808, 3,",
         TooLarge,
-        "pub S",
+        b"pub S",
     ),
 ];
 
 // The same of the text of version 2.
-const INDEXED: &[(&str, &str, CrateTyping, &str)] = &[
+const INDEXED: &[Edit<'static>] = &[
     // counts
     (
-        "at_bit(0, 4, 8, n)) &",
-        "at_bit(0, 4, 0, n)) &",
+        b"at_bit(0, 4, 8, n)) &",
+        b"at_bit(0, 4, 0, n)) &",
         LiteralRange,
-        "pub fn ch(&self",
+        b"pub fn ch(&self",
     ),
     (
-        "self, at_bit(0, 4, 8",
-        "self, at_bit(0, 4, 0",
+        b"self, at_bit(0, 4, 8",
+        b"self, at_bit(0, 4, 0",
         LiteralRange,
-        "pub fn ch(&mut",
+        b"pub fn ch(&mut",
     ),
     // the last bit of a reader
     (
-        "at_bit(0, 4, 8, n)) &",
-        "at_bit(4, 4, 8, n)) &",
+        b"at_bit(0, 4, 8, n)) &",
+        b"at_bit(4, 4, 8, n)) &",
         LiteralRange,
-        "pub fn ch(&self",
+        b"pub fn ch(&self",
     ),
     (
-        "at_bit(0, 4, 8, n)) &",
-        "at_bit(0, 4, 9, n)) &",
+        b"at_bit(0, 4, 8, n)) &",
+        b"at_bit(0, 4, 9, n)) &",
         LiteralRange,
-        "pub fn ch(&self",
+        b"pub fn ch(&self",
     ),
     (
-        "at_bit(0, 8, 4, n)) &",
-        "at_bit(0, 9223372036854775808, 3, n)) &",
+        b"at_bit(0, 8, 4, n)) &",
+        b"at_bit(0, 9223372036854775808, 3, n)) &",
         LiteralRange,
-        "pub fn lv(&self",
+        b"pub fn lv(&self",
     ),
     // the last bits of a writer, and its width
     (
-        "self, at_bit(0, 4, 8",
-        "self, at_bit(4, 4, 8",
+        b"self, at_bit(0, 4, 8",
+        b"self, at_bit(4, 4, 8",
         LiteralRange,
-        "pub fn ch(&mut",
+        b"pub fn ch(&mut",
     ),
     (
-        "self, at_bit(0, 8, 4",
-        "self, at_bit(7, 8, 4",
+        b"self, at_bit(0, 8, 4",
+        b"self, at_bit(7, 8, 4",
         LiteralRange,
-        "pub fn lv(&mut",
+        b"pub fn lv(&mut",
     ),
     (
-        "self, at_bit(0, 8, 4",
-        "self, at_bit(0, 18446744073709551615, 2",
+        b"self, at_bit(0, 8, 4",
+        b"self, at_bit(0, 18446744073709551615, 2",
         LiteralRange,
-        "pub fn lv(&mut",
+        b"pub fn lv(&mut",
     ),
     (
-        "u8, 2> { FieldWriter::new(self, at_bit(0, 8, 4",
-        "u8, 9> { FieldWriter::new(self, at_bit(0, 8, 3",
+        b"u8, 2> { FieldWriter::new(self, at_bit(0, 8, 4",
+        b"u8, 9> { FieldWriter::new(self, at_bit(0, 8, 3",
         LiteralRange,
-        "pub fn lv(&mut",
+        b"pub fn lv(&mut",
     ),
     // one more name of the prelude
-    ("pub fn en(", "pub fn at_bit(", DoubleName, "pub fn at_bit("),
     (
-        "pub fn lv(&mut",
-        "pub fn at_bit(&mut",
+        b"pub fn en(",
+        b"pub fn at_bit(",
         DoubleName,
-        "pub fn at_bit(&mut",
+        b"pub fn at_bit(",
+    ),
+    (
+        b"pub fn lv(&mut",
+        b"pub fn at_bit(&mut",
+        DoubleName,
+        b"pub fn at_bit(&mut",
     ),
 ];
 
 /// Whether the text breaks a rule of the kind, first at the item that begins so.
-pub(crate) fn breaks(alloc: Global, text: &str, kind: CrateTyping, item: &str) -> bool {
+pub(crate) fn breaks(alloc: Global, text: &[u8], kind: CrateTyping, item: &[u8]) -> bool {
     match typed(alloc, text) {
         Err(CrateFault::Typing { at, kind: found }) => {
-            found == kind && text.find(item) == Some(at)
+            found == kind && place_of(text, item) == Some(at)
         }
         _ => false,
     }
 }
 
+/// Whether the text breaks a rule so where it is edited.
+fn breaks_where_edited(alloc: Global, text: &[u8], edit: Edit<'_>) -> Result<bool, NoMemory> {
+    let (old, new, kind, item) = edit;
+    let text = edited(alloc, text, old, new)?;
+    Ok(breaks(alloc, text.as_slice(), kind, item))
+}
+
 #[test]
 fn distinct_names(rt: HostRuntime) -> Result<(), Fail> {
-    for &(old, new, kind, item) in NAMES {
-        let text = edited(rt.alloc(), VALUED, old, new)?;
-        assert!(rt; breaks(rt.alloc(), text.as_str(), kind, item), "{new}");
+    for (place, &edit) in NAMES.iter().enumerate() {
+        assert!(rt; breaks_where_edited(rt.alloc(), VALUED, edit)?, "{place}");
     }
     Ok(())
 }
 
 #[test]
 fn named_modules(rt: HostRuntime) -> Result<(), Fail> {
-    for &(old, new, kind, item) in MODULES {
-        let text = edited(rt.alloc(), VALUED, old, new)?;
-        assert!(rt; breaks(rt.alloc(), text.as_str(), kind, item), "{new}");
+    for (place, &edit) in MODULES.iter().enumerate() {
+        assert!(rt; breaks_where_edited(rt.alloc(), VALUED, edit)?, "{place}");
     }
     Ok(())
 }
 
 #[test]
 fn bodies_and_counts(rt: HostRuntime) -> Result<(), Fail> {
-    for &(old, new, kind, item) in BODIES {
-        let text = edited(rt.alloc(), VALUED, old, new)?;
-        assert!(rt; breaks(rt.alloc(), text.as_str(), kind, item), "{new}");
+    for (place, &edit) in BODIES.iter().enumerate() {
+        assert!(rt; breaks_where_edited(rt.alloc(), VALUED, edit)?, "{place}");
     }
     Ok(())
 }
 
 #[test]
 fn constants_and_readers(rt: HostRuntime) -> Result<(), Fail> {
-    for &(old, new, kind, item) in READERS {
-        let text = edited(rt.alloc(), VALUED, old, new)?;
-        assert!(rt; breaks(rt.alloc(), text.as_str(), kind, item), "{new}");
+    for (place, &edit) in READERS.iter().enumerate() {
+        assert!(rt; breaks_where_edited(rt.alloc(), VALUED, edit)?, "{place}");
     }
     Ok(())
 }
 
 #[test]
 fn writers_and_values(rt: HostRuntime) -> Result<(), Fail> {
-    for &(old, new, kind, item) in WRITERS {
-        let text = edited(rt.alloc(), VALUED, old, new)?;
-        assert!(rt; breaks(rt.alloc(), text.as_str(), kind, item), "{new}");
+    for (place, &edit) in WRITERS.iter().enumerate() {
+        assert!(rt; breaks_where_edited(rt.alloc(), VALUED, edit)?, "{place}");
     }
     Ok(())
 }
 
 #[test]
 fn calls_directions_and_ends(rt: HostRuntime) -> Result<(), Fail> {
-    for &(old, new, kind, item) in CALLS {
-        let text = edited(rt.alloc(), VALUED, old, new)?;
-        assert!(rt; breaks(rt.alloc(), text.as_str(), kind, item), "{new}");
+    for (place, &edit) in CALLS.iter().enumerate() {
+        assert!(rt; breaks_where_edited(rt.alloc(), VALUED, edit)?, "{place}");
     }
     Ok(())
 }
 
 #[test]
 fn indexed_calls(rt: HostRuntime) -> Result<(), Fail> {
-    for &(old, new, kind, item) in INDEXED {
-        let text = edited(rt.alloc(), CHANNELS, old, new)?;
-        assert!(rt; breaks(rt.alloc(), text.as_str(), kind, item), "{new}");
+    for (place, &edit) in INDEXED.iter().enumerate() {
+        assert!(rt; breaks_where_edited(rt.alloc(), CHANNELS, edit)?, "{place}");
     }
     Ok(())
 }
@@ -419,8 +428,8 @@ fn indexed_calls(rt: HostRuntime) -> Result<(), Fail> {
 #[test]
 fn nine_in_the_worked_text(rt: HostRuntime) -> Result<(), Fail> {
     // the last of nine would be bit 33
-    let nine = worked_array(rt.alloc(), "9")?;
+    let nine = worked_array(rt.alloc(), b"9")?;
     let kind = LiteralRange;
-    assert!(rt; breaks(rt.alloc(), nine.as_str(), kind, "pub fn f1(&mut"));
+    assert!(rt; breaks(rt.alloc(), nine.as_slice(), kind, b"pub fn f1(&mut"));
     Ok(())
 }

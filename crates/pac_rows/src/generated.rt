@@ -1,21 +1,25 @@
-use crate::harness::{ONE_REGISTER, call, described, file, listing, refusal};
-use pac_io::MemSink;
-use std::process::Abort;
+use crate::harness::{
+    Failing, ONE_REGISTER, answers, answers_where, described, joined, listing, refusal,
+};
+use pac_base::NoMemory;
+use std::alloc::Global;
 use std::test::Fail;
 
-const HEAD: &str = "use crate::generic::*;
+const HEAD: &[u8] = b"use crate::generic::*;
 
 pub struct Peripherals {
 ";
 
-const VERSION_TWO: &str = "pub const CRATE_TEXT: u32 = 0x2;\n";
+const VERSION_TWO: &[u8] = b"pub const CRATE_TEXT: u32 = 0x2;\n";
 
-// Registers of `T`, and what stands behind the first lines of the text of its crate.
-const GENERATED: &[(&str, &str, &str)] = &[
+// Registers of `T`, the line of the version in the text of its crate, if there is one, and what stands behind its first
+// lines.
+const GENERATED: &[(&str, &[u8], &[u8], &[u8])] = &[
     (
         "one_to_clear_mask",
-        "<register><name>SR</name><addressOffset>0</addressOffset><resetValue>3</resetValue><fields><field><name>F0</name><bitOffset>0</bitOffset><bitWidth>1</bitWidth><modifiedWriteValues>oneToClear</modifiedWriteValues></field><field><name>F1</name><bitOffset>1</bitOffset><bitWidth>1</bitWidth></field></fields></register>",
-        "        sr: Reg<sr::Spec>,
+        b"<register><name>SR</name><addressOffset>0</addressOffset><resetValue>3</resetValue><fields><field><name>F0</name><bitOffset>0</bitOffset><bitWidth>1</bitWidth><modifiedWriteValues>oneToClear</modifiedWriteValues></field><field><name>F1</name><bitOffset>1</bitOffset><bitWidth>1</bitWidth></field></fields></register>",
+        b"",
+        b"        sr: Reg<sr::Spec>,
     }
     impl RegisterBlock {
         pub fn sr(&self) -> &Reg<sr::Spec> { &self.sr }
@@ -43,8 +47,9 @@ const GENERATED: &[(&str, &str, &str)] = &[
     ),
     (
         "a_gap_an_array_and_an_alternate",
-        "<register><name>CR</name><addressOffset>0</addressOffset><size>8</size><access>write-only</access></register><register><dim>4</dim><dimIncrement>4</dimIncrement><name>CH[%s]</name><addressOffset>12</addressOffset><access>read-only</access></register><register><name>ALT</name><addressOffset>12</addressOffset><access>read-only</access></register>",
-        "        cr: Reg<cr::Spec>,
+        b"<register><name>CR</name><addressOffset>0</addressOffset><size>8</size><access>write-only</access></register><register><dim>4</dim><dimIncrement>4</dimIncrement><name>CH[%s]</name><addressOffset>12</addressOffset><access>read-only</access></register><register><name>ALT</name><addressOffset>12</addressOffset><access>read-only</access></register>",
+        b"",
+        b"        cr: Reg<cr::Spec>,
         _reserved0: [u8; 11],
         ch: [Reg<ch::Spec>; 4],
     }
@@ -85,8 +90,9 @@ const GENERATED: &[(&str, &str, &str)] = &[
     ),
     (
         "clusters_apart",
-        "<cluster><dim>2</dim><dimIncrement>16</dimIncrement><name>CM[%s]</name><addressOffset>4</addressOffset><register><name>type</name><addressOffset>0</addressOffset><size>16</size><access>read-only</access></register></cluster>",
-        "    }
+        b"<cluster><dim>2</dim><dimIncrement>16</dimIncrement><name>CM[%s]</name><addressOffset>4</addressOffset><register><name>type</name><addressOffset>0</addressOffset><size>16</size><access>read-only</access></register></cluster>",
+        b"",
+        b"    }
     impl RegisterBlock {
         pub fn cm(&self, n: usize) -> &cm::RegisterBlock { at_index(self, 0x4, 16, 2, n) }
     }
@@ -112,12 +118,12 @@ const GENERATED: &[(&str, &str, &str)] = &[
 }
 ",
     ),
-];
-
-// An array of fields has one reader and one writer, which take an index.
-const ARRAY_OF_FIELDS: (&str, &str) = (
-    "<register><name>R</name><addressOffset>0</addressOffset><fields><field><name>LV[%s]</name><dim>4</dim><dimIncrement>8</dimIncrement><bitOffset>0</bitOffset><bitWidth>2</bitWidth></field></fields></register>",
-    "        r: Reg<r::Spec>,
+    // An array of fields has one reader and one writer, which take an index.
+    (
+        "array_of_fields",
+        b"<register><name>R</name><addressOffset>0</addressOffset><fields><field><name>LV[%s]</name><dim>4</dim><dimIncrement>8</dimIncrement><bitOffset>0</bitOffset><bitWidth>2</bitWidth></field></fields></register>",
+        VERSION_TWO,
+        b"        r: Reg<r::Spec>,
     }
     impl RegisterBlock {
         pub fn r(&self) -> &Reg<r::Spec> { &self.r }
@@ -139,69 +145,73 @@ const ARRAY_OF_FIELDS: (&str, &str) = (
     }
 }
 ",
-);
+    ),
+];
 
-/// Generates the crate of these registers, and compares its text: `version`, the first lines, and `text` behind them.
+/// What stands between the first lines and the fields of the block of `T`.
+const BLOCK: &[u8] = b"    pub T: Periph<t::RegisterBlock, 0x40000000>,
+}
+
+pub mod t {
+    use crate::generic::*;
+    #[repr(C)]
+    pub struct RegisterBlock {
+";
+
+/// Whether the crate of these registers has this text: `version`, the first lines, and `text` behind them.
 fn generates(
-    rt: &(impl Abort + AllocGlobal),
-    row: &str,
-    registers: &str,
-    version: &str,
-    text: &str,
-) -> Result<(), Fail> {
-    let files = file(rt, "x.svd", described(rt, registers)?.as_bytes())?;
-    let out = MemSink::new(rt.alloc());
-    let wanted = format!(in rt.alloc();
-        "{version}{HEAD}    pub T: Periph<t::RegisterBlock, 0x40000000>,\n}}\n\npub mod t {{\n    use crate::generic::*;\n    #[repr(C)]\n    pub struct RegisterBlock {{\n{text}"
-    )?;
-    call(
-        rt,
+    alloc: Global,
+    registers: &[u8],
+    version: &[u8],
+    text: &[u8],
+) -> Result<bool, NoMemory> {
+    let description = described(alloc, registers)?;
+    let whole = joined(alloc, &[version, HEAD, BLOCK, text])?;
+    answers(
+        alloc,
         &["generate", "x.svd"],
-        files,
-        out,
-        &listing(row, wanted.as_str()),
+        &[("x.svd", description.as_slice())],
+        &listing(whole.as_slice()),
     )
 }
 
 #[test]
 fn generated_crates(rt: HostRuntime) -> Result<(), Fail> {
-    for &(row, registers, text) in GENERATED {
-        generates(&rt, row, registers, "", text)?;
+    for &(row, registers, version, text) in GENERATED {
+        assert!(rt; generates(rt.alloc(), registers, version, text)?, "{row}");
     }
     Ok(())
 }
 
 #[test]
-fn an_array_of_fields(rt: HostRuntime) -> Result<(), Fail> {
-    let (registers, text) = ARRAY_OF_FIELDS;
-    generates(&rt, "array_of_fields", registers, VERSION_TWO, text)
-}
-
-#[test]
 fn no_peripherals(rt: HostRuntime) -> Result<(), Fail> {
-    let description = "<device><name>D</name><peripherals/></device>";
-    let files = file(&rt, "x.svd", description.as_bytes())?;
-    let wanted = format!(in rt.alloc(); "{HEAD}}}\n")?;
-    let out = MemSink::new(rt.alloc());
-    call(
-        &rt,
-        &["generate", "x.svd"],
-        files,
-        out,
-        &listing("no_peripherals", wanted.as_str()),
-    )
+    let text = joined(rt.alloc(), &[HEAD, b"}\n"])?;
+    assert!(rt;
+        answers(
+            rt.alloc(),
+            &["generate", "x.svd"],
+            &[("x.svd", b"<device><name>D</name><peripherals/></device>")],
+            &listing(text.as_slice())
+        )?
+    );
+    Ok(())
 }
 
 #[test]
 fn a_first_write_that_fails(rt: HostRuntime) -> Result<(), Fail> {
-    let files = file(&rt, "x.svd", ONE_REGISTER.as_bytes())?;
-    let mut out = MemSink::new(rt.alloc());
-    out.fail(1)?;
-    call(
-        &rt,
-        &["generate", "x.svd"],
-        files,
-        out,
-        &refusal("write", 4, "cannot write"),
-    )
+    let failing = Failing {
+        read: 0,
+        write: 1,
+        access: 0,
+    };
+    assert!(rt;
+        answers_where(
+            rt.alloc(),
+            &["generate", "x.svd"],
+            &[("x.svd", ONE_REGISTER)],
+            failing,
+            &refusal(4, "cannot write")
+        )?
+    );
+    Ok(())
 }

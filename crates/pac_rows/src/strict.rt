@@ -1,95 +1,93 @@
-use crate::harness::{Wanted, call, described, file, listing, lists, refusal};
-use pac_io::{MemFiles, MemSink};
-use std::process::Abort;
+use crate::harness::{Wanted, answers, described};
+use pac_base::NoMemory;
+use std::alloc::Global;
 use std::test::Fail;
 
 /// Two registers at one address, neither of which names the other.
-const ALTERNATES: &str =
-    "<register><name>CCMR1_OUTPUT</name><addressOffset>0x18</addressOffset></register><register><name>CCMR1_INPUT</name><addressOffset>0x18</addressOffset></register>";
+const ALTERNATES: &[u8] =
+    b"<register><name>CCMR1_OUTPUT</name><addressOffset>0x18</addressOffset></register><register><name>CCMR1_INPUT</name><addressOffset>0x18</addressOffset></register>";
 
 /// What lists them.
-const LISTED: &str =
-    "T.ccmr1_output 0x40000018 32 rw 0x00000000\nT.ccmr1_input 0x40000018 32 rw 0x00000000\n";
+const LISTED: &[u8] =
+    b"T.ccmr1_output 0x40000018 32 rw 0x00000000\nT.ccmr1_input 0x40000018 32 rw 0x00000000\n";
 
 /// The same registers, of which the second names the first.
-const NAMED: &str =
-    "<register><name>CCMR1_OUTPUT</name><addressOffset>0x18</addressOffset></register><register><name>CCMR1_INPUT</name><alternateRegister>CCMR1_OUTPUT</alternateRegister><addressOffset>0x18</addressOffset></register>";
+const NAMED: &[u8] =
+    b"<register><name>CCMR1_OUTPUT</name><addressOffset>0x18</addressOffset></register><register><name>CCMR1_INPUT</name><alternateRegister>CCMR1_OUTPUT</alternateRegister><addressOffset>0x18</addressOffset></register>";
 
 /// Two fields of one register at one bit.
-const FIELDS: &str =
-    "<register><name>R</name><addressOffset>0</addressOffset><fields><field><name>F0</name><bitOffset>0</bitOffset><bitWidth>1</bitWidth><modifiedWriteValues>oneToClear</modifiedWriteValues></field><field><name>G</name><bitOffset>0</bitOffset><bitWidth>1</bitWidth><modifiedWriteValues>zeroToClear</modifiedWriteValues></field></fields></register>";
+const FIELDS: &[u8] =
+    b"<register><name>R</name><addressOffset>0</addressOffset><fields><field><name>F0</name><bitOffset>0</bitOffset><bitWidth>1</bitWidth><modifiedWriteValues>oneToClear</modifiedWriteValues></field><field><name>G</name><bitOffset>0</bitOffset><bitWidth>1</bitWidth><modifiedWriteValues>zeroToClear</modifiedWriteValues></field></fields></register>";
 
-/// Lists registers of `T` under `--strict`, and compares.
-fn lists_strictly(
-    rt: &(impl Abort + AllocGlobal),
-    registers: &str,
-    wanted: &Wanted<'_>,
-) -> Result<(), Fail> {
-    let description = described(rt, registers)?;
-    let files = file(rt, "x.svd", description.as_bytes())?;
-    let out = MemSink::new(rt.alloc());
-    call(rt, &["list", "x.svd", "--strict"], files, out, wanted)
-}
+/// What lists those fields.
+const FIELDS_LISTED: &[u8] =
+    b"T.r 0x40000000 32 rw 0x00000000\n  f0 [0:0] rw oneToClear\n  g [0:0] rw zeroToClear\n";
 
-// Registers of `T` that overlap: what lists them, and how they are refused under `--strict`.
-const OVERLAPPING: &[(&str, &str, &str)] = &[
+/// What a script reads of the second register.
+const READ: &[u8] = b"read 0x40000018 32 0x00000000\n";
+
+/// How the registers are refused.
+const OVERLAP: &str = "T.CCMR1_OUTPUT and T.CCMR1_INPUT overlap";
+
+// Words, registers of `T`, and what is answered: the status, the output, and the fault. The other commands over a
+// description refuse the same as listing does.
+const ROWS: &[(&[&str], &[u8], u8, &[u8], &str)] = &[
+    (&["list", "x.svd"], ALTERNATES, 0, LISTED, ""),
+    (&["list", "x.svd", "--strict"], ALTERNATES, 8, b"", OVERLAP),
+    (&["list", "x.svd"], FIELDS, 0, FIELDS_LISTED, ""),
     (
-        ALTERNATES,
-        LISTED,
-        "T.CCMR1_OUTPUT and T.CCMR1_INPUT overlap",
-    ),
-    (
+        &["list", "x.svd", "--strict"],
         FIELDS,
-        "T.r 0x40000000 32 rw 0x00000000\n  f0 [0:0] rw oneToClear\n  g [0:0] rw zeroToClear\n",
+        8,
+        b"",
         "T.R.F0 and T.R.G overlap",
     ),
+    (&["list", "x.svd", "--strict"], NAMED, 0, LISTED, ""),
+    (
+        &["generate", "--strict", "x.svd"],
+        ALTERNATES,
+        8,
+        b"",
+        OVERLAP,
+    ),
+    (
+        &["run", "x.svd", "s", "--strict"],
+        ALTERNATES,
+        8,
+        b"",
+        OVERLAP,
+    ),
+    (&["run", "x.svd", "s"], ALTERNATES, 0, READ, ""),
+    (&["run", "--strict", "x.svd", "s"], NAMED, 0, READ, ""),
 ];
+
+/// Whether `pac` with these words, over registers of `T` and a script, answers so.
+fn answers_so(
+    alloc: Global,
+    words: &[&str],
+    registers: &[u8],
+    wanted: &Wanted<'_>,
+) -> Result<bool, NoMemory> {
+    let description = described(alloc, registers)?;
+    let files = [
+        ("x.svd", description.as_slice()),
+        ("s", b"let a = T.ccmr1_input().read();".as_slice()),
+    ];
+    answers(alloc, words, &files, wanted)
+}
 
 #[test]
 fn overlaps(rt: HostRuntime) -> Result<(), Fail> {
-    for &(registers, output, fault) in OVERLAPPING {
-        let description = described(&rt, registers)?;
-        lists(&rt, description.as_str(), &listing(fault, output))?;
-        lists_strictly(&rt, registers, &refusal(fault, 8, fault))?;
+    for (place, &(words, registers, status, output, fault)) in ROWS.iter().enumerate() {
+        let wanted = Wanted {
+            status,
+            output,
+            fault,
+        };
+        assert!(rt;
+            answers_so(rt.alloc(), words, registers, &wanted)?,
+            "{place}"
+        );
     }
     Ok(())
-}
-
-#[test]
-fn an_alternate_register(rt: HostRuntime) -> Result<(), Fail> {
-    lists_strictly(&rt, NAMED, &listing("alternate_registers", LISTED))
-}
-
-// The other commands over a description refuse the same.
-#[test]
-fn overlaps_in_other_commands(rt: HostRuntime) -> Result<(), Fail> {
-    let description = described(&rt, ALTERNATES)?;
-    let wanted = refusal("overlap", 8, "T.CCMR1_OUTPUT and T.CCMR1_INPUT overlap");
-    let files = file(&rt, "x.svd", description.as_bytes())?;
-    let out = MemSink::new(rt.alloc());
-    call(&rt, &["generate", "--strict", "x.svd"], files, out, &wanted)?;
-    let mut files = MemFiles::new(rt.alloc());
-    files.add("x.svd", description.as_bytes())?;
-    files.add("s", b"let a = T.ccmr1_input().read();")?;
-    let out = MemSink::new(rt.alloc());
-    call(&rt, &["run", "x.svd", "s", "--strict"], files, out, &wanted)
-}
-
-// A script over registers that overlap, and over some that may.
-#[test]
-fn runs(rt: HostRuntime) -> Result<(), Fail> {
-    let events = listing("events", "read 0x40000018 32 0x00000000\n");
-    let script = b"let a = T.ccmr1_input().read();";
-    let overlapping = described(&rt, ALTERNATES)?;
-    let mut files = MemFiles::new(rt.alloc());
-    files.add("x.svd", overlapping.as_bytes())?;
-    files.add("s", script)?;
-    let out = MemSink::new(rt.alloc());
-    call(&rt, &["run", "x.svd", "s"], files, out, &events)?;
-    let named = described(&rt, NAMED)?;
-    let mut files = MemFiles::new(rt.alloc());
-    files.add("x.svd", named.as_bytes())?;
-    files.add("s", script)?;
-    let out = MemSink::new(rt.alloc());
-    call(&rt, &["run", "--strict", "x.svd", "s"], files, out, &events)
 }

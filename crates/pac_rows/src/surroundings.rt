@@ -1,7 +1,10 @@
-use crate::harness::{ONE_REGISTER, call, described, file, lists, refusal, texts};
-use pac_bus::ZeroBus;
-use pac_cli::{BusSlot, Told, run_pac};
-use pac_io::{MemFiles, MemSink};
+use crate::harness::{
+    Failing, ONE_REGISTER, answers, answers_where, described, ends, files_of, lists_registers,
+    refusal, sink, zero_alone, zeros,
+};
+use pac_base::NoMemory;
+use pac_cli::Told;
+use std::alloc::Global;
 use std::test::Fail;
 
 const USAGE: &str =
@@ -45,10 +48,9 @@ const WORDS: &[&[&str]] = &[
 
 #[test]
 fn words_of_no_command(rt: HostRuntime) -> Result<(), Fail> {
-    for &words in WORDS {
-        let files = MemFiles::new(rt.alloc());
-        let out = MemSink::new(rt.alloc());
-        call(&rt, words, files, out, &refusal("words", 2, USAGE))?;
+    for (place, &words) in WORDS.iter().enumerate() {
+        let wanted = refusal(2, USAGE);
+        assert!(rt; answers(rt.alloc(), words, &[], &wanted)?, "{place}");
     }
     Ok(())
 }
@@ -82,99 +84,110 @@ const FILE_WORDS: &[(&[&str], &str)] = &[
 #[test]
 fn words_that_name_a_file(rt: HostRuntime) -> Result<(), Fail> {
     for &(words, fault) in FILE_WORDS {
-        let files = MemFiles::new(rt.alloc());
-        let out = MemSink::new(rt.alloc());
-        call(&rt, words, files, out, &refusal(fault, 3, fault))?;
+        let wanted = refusal(3, fault);
+        assert!(rt; answers(rt.alloc(), words, &[], &wanted)?, "{fault}");
     }
     Ok(())
 }
 
+// Which read or which write of listing one register fails, with the status and the fault.
+const FAILING: &[(u64, u64, u8, &str)] = &[
+    (1, 0, 3, "cannot read x.svd"),
+    (0, 1, 4, "cannot write"),
+];
+
 #[test]
-fn reads_that_fail(rt: HostRuntime) -> Result<(), Fail> {
-    let mut files = file(&rt, "x.svd", ONE_REGISTER.as_bytes())?;
-    files.fail(1)?;
-    let out = MemSink::new(rt.alloc());
-    let wanted = refusal("files", 3, "cannot read x.svd");
-    call(&rt, &["list", "x.svd"], files, out, &wanted)
+fn a_read_or_a_write_that_fails(rt: HostRuntime) -> Result<(), Fail> {
+    for &(read, write, status, fault) in FAILING {
+        let failing = Failing {
+            read,
+            write,
+            access: 0,
+        };
+        assert!(rt;
+            answers_where(
+                rt.alloc(),
+                &["list", "x.svd"],
+                &[("x.svd", ONE_REGISTER)],
+                failing,
+                &refusal(status, fault)
+            )?,
+            "{fault}"
+        );
+    }
+    Ok(())
+}
+
+/// Whether a call over no files, whose error output fails, ends with the status and tells that.
+fn tells_nothing(alloc: Global) -> Result<bool, NoMemory> {
+    let mut files = files_of(alloc, &[])?;
+    let mut out = sink(alloc, 0)?;
+    let mut err = sink(alloc, 1)?;
+    let mut buses = zero_alone(alloc, zeros(alloc)?)?;
+    let words = ["list", "x.svd"];
+    let end = ends(alloc, &words, &mut files, &mut out, &mut err, &mut buses)?;
+    Ok(end == (3, Told::Failed) && err.written().is_empty())
 }
 
 #[test]
 fn an_error_output_that_fails(rt: HostRuntime) -> Result<(), Fail> {
-    let mut files = MemFiles::new(rt.alloc());
-    let mut out = MemSink::new(rt.alloc());
-    let mut err = MemSink::new(rt.alloc());
-    err.fail(1)?;
-    let words = texts(&rt, &["list", "x.svd"])?;
-    let mut buses: Vec<BusSlot<ZeroBus>> = Vec::new(rt.alloc());
-    let outcome = run_pac(
-        rt.alloc(),
-        words.as_slice(),
-        &mut files,
-        &mut out,
-        &mut err,
-        &mut buses,
-    );
-    assert_eq!(rt; outcome.status, 3);
-    assert_eq!(rt; outcome.told, Told::Failed);
-    assert_eq!(rt; err.written(), b"".as_slice());
+    assert!(rt; tells_nothing(rt.alloc())?);
     Ok(())
-}
-
-#[test]
-fn sinks_whose_first_write_fails(rt: HostRuntime) -> Result<(), Fail> {
-    let files = file(&rt, "x.svd", ONE_REGISTER.as_bytes())?;
-    let mut out = MemSink::new(rt.alloc());
-    out.fail(1)?;
-    let wanted = refusal("sinks", 4, "cannot write");
-    call(&rt, &["list", "x.svd"], files, out, &wanted)
 }
 
 // An array of registers whose listing goes out in more than one write.
-const LONG: &str =
-    "<register><name>R[%s]</name><addressOffset>0</addressOffset><dim>3000</dim><dimIncrement>4</dimIncrement></register>";
+const LONG: &[u8] =
+    b"<register><name>R[%s]</name><addressOffset>0</addressOffset><dim>3000</dim><dimIncrement>4</dimIncrement></register>";
+
+/// Whether a long listing whose second write fails has its begin in the output, and a line in the error output.
+fn begins(alloc: Global) -> Result<bool, NoMemory> {
+    let description = described(alloc, LONG)?;
+    let mut files = files_of(alloc, &[("x.svd", description.as_slice())])?;
+    let mut out = sink(alloc, 2)?;
+    let mut err = sink(alloc, 0)?;
+    let mut buses = zero_alone(alloc, zeros(alloc)?)?;
+    let words = ["list", "x.svd"];
+    let end = ends(alloc, &words, &mut files, &mut out, &mut err, &mut buses)?;
+    Ok(
+        end == (4, Told::Whole)
+            && err.written() == b"pac: cannot write\n".as_slice()
+            && out
+                .written()
+                .starts_with(b"T.r[0] 0x40000000 32 rw 0x00000000\n"),
+    )
+}
 
 #[test]
 fn sinks_whose_second_write_fails(rt: HostRuntime) -> Result<(), Fail> {
-    let description = described(&rt, LONG)?;
-    let mut files = file(&rt, "x.svd", description.as_bytes())?;
-    let mut out = MemSink::new(rt.alloc());
-    out.fail(2)?;
-    let mut err = MemSink::new(rt.alloc());
-    let words = texts(&rt, &["list", "x.svd"])?;
-    let mut buses: Vec<BusSlot<ZeroBus>> = Vec::new(rt.alloc());
-    let outcome = run_pac(
-        rt.alloc(),
-        words.as_slice(),
-        &mut files,
-        &mut out,
-        &mut err,
-        &mut buses,
-    );
-    assert_eq!(rt; outcome.status, 4);
-    assert_eq!(rt; err.written(), b"pac: cannot write\n".as_slice());
-    assert!(rt;
-        out.written()
-            .starts_with(b"T.r[0] 0x40000000 32 rw 0x00000000\n")
-    );
+    assert!(rt; begins(rt.alloc())?);
     Ok(())
+}
+
+/// Whether a description of spaces is too long.
+fn is_too_long(alloc: Global) -> Result<bool, NoMemory> {
+    let long = vec![in alloc; b' '; 67_108_865]?;
+    let wanted = refusal(11, "x.svd is longer than 67108864 bytes");
+    answers(
+        alloc,
+        &["list", "x.svd"],
+        &[("x.svd", long.as_slice())],
+        &wanted,
+    )
 }
 
 #[test]
 fn limits(rt: HostRuntime) -> Result<(), Fail> {
-    let description = vec![in rt.alloc(); b' '; 67_108_865]?;
-    let files = file(&rt, "x.svd", description.as_slice())?;
-    let out = MemSink::new(rt.alloc());
-    let wanted = refusal("limits", 11, "x.svd is longer than 67108864 bytes");
-    call(&rt, &["list", "x.svd"], files, out, &wanted)
+    assert!(rt; is_too_long(rt.alloc())?);
+    Ok(())
 }
 
 // An array of 65,536 registers in an array of five clusters.
-const MANY: &str =
-    "<cluster><name>C[%s]</name><addressOffset>0</addressOffset><dim>5</dim><dimIncrement>0x40000</dimIncrement><register><name>R[%s]</name><addressOffset>0</addressOffset><dim>65536</dim><dimIncrement>4</dimIncrement></register></cluster>";
+const MANY: &[u8] =
+    b"<cluster><name>C[%s]</name><addressOffset>0</addressOffset><dim>5</dim><dimIncrement>0x40000</dimIncrement><register><name>R[%s]</name><addressOffset>0</addressOffset><dim>65536</dim><dimIncrement>4</dimIncrement></register></cluster>";
 
 #[test]
 fn too_many_registers(rt: HostRuntime) -> Result<(), Fail> {
-    let description = described(&rt, MANY)?;
-    let wanted = refusal("limits", 11, "too many registers: 327680");
-    lists(&rt, description.as_str(), &wanted)
+    let wanted = refusal(11, "too many registers: 327680");
+    assert!(rt; lists_registers(rt.alloc(), MANY, &wanted)?);
+    Ok(())
 }

@@ -7,7 +7,7 @@ use svd_model::Device;
 use svd_reader::read_device;
 
 // Five peripherals with a register each.
-const TIMERS: &str = "<device><name>D</name><peripherals>\
+const TIMERS: &[u8] = b"<device><name>D</name><peripherals>\
     <peripheral><name>TIM1</name><baseAddress>0x40000000</baseAddress><registers><register><name>R</name><addressOffset>0</addressOffset></register></registers></peripheral>\
     <peripheral><name>TIM10</name><baseAddress>0x40001000</baseAddress><registers><register><name>R</name><addressOffset>0</addressOffset></register></registers></peripheral>\
     <peripheral><name>TIM4</name><baseAddress>0x40002000</baseAddress><registers><register><name>R</name><addressOffset>0</addressOffset></register></registers></peripheral>\
@@ -16,7 +16,7 @@ const TIMERS: &str = "<device><name>D</name><peripherals>\
     </peripherals></device>";
 
 // A register with two fields in a cluster in a cluster.
-const NESTED: &str = "<device><name>D</name><peripherals>\
+const NESTED: &[u8] = b"<device><name>D</name><peripherals>\
     <peripheral><name>T</name><baseAddress>0</baseAddress><registers>\
     <cluster><name>K</name><addressOffset>0</addressOffset>\
     <cluster><name>L</name><addressOffset>0</addressOffset>\
@@ -25,15 +25,19 @@ const NESTED: &str = "<device><name>D</name><peripherals>\
     <register><name>S</name><addressOffset>4</addressOffset></register>\
     </cluster></cluster></registers></peripheral></peripherals></device>";
 
-fn names(alloc: Global, device: &Device) -> Result<String, Fail> {
-    let mut names = String::new(alloc);
-    for (key, _) in &device.peripherals {
-        for byte in key.name.bytes() {
-            names.push(char::from(*byte))?;
-        }
-        names.push(' ')?;
+fn patterns(alloc: Global, texts: &[&str]) -> Result<Vec<Pattern>, Fail> {
+    let mut patterns = Vec::new(alloc);
+    for text in texts {
+        patterns.push(Pattern::new(alloc, text.as_bytes())?)?;
     }
-    Ok(names)
+    Ok(patterns)
+}
+
+fn is_named(device: &Device, place: usize, name: &[u8]) -> bool {
+    match device.peripherals.get_index(place) {
+        Some((key, _)) => key.name.bytes() == name,
+        None => false,
+    }
 }
 
 // The line of a refusal because nothing matches, and 0 for all else.
@@ -47,47 +51,59 @@ fn refused(done: &Result<(), PatchFault>) -> u32 {
 #[test]
 fn deletion_takes_away_all_that_match(rt: HostRuntime) -> Result<(), Fail> {
     let pattern = Pattern::new(rt.alloc(), b"TIM[1-3]*,USART?")?;
-    let mut device = read_device(rt.alloc(), TIMERS.as_bytes())?.into_device();
+    let other = Pattern::new(rt.alloc(), b"I2C*")?;
+    let mut device = read_device(rt.alloc(), TIMERS)?.into_device();
     let mut total = device.elements();
     delete(rt.alloc(), 1, &[], &pattern, &mut total, &mut device)?;
-    assert!(rt; total == 4);
-    assert!(rt; names(rt.alloc(), &device)?.as_str() == "TIM4 USART10 ");
-    let other = Pattern::new(rt.alloc(), b"I2C*")?;
-    let done = delete(rt.alloc(), 1, &[], &other, &mut total, &mut device);
-    assert!(rt; refused(&done) == 1);
+    assert!(rt; total == device.elements());
+    assert!(rt; device.peripherals.len() == 2);
+    assert!(rt; is_named(&device, 0, b"TIM4"));
+    assert!(rt; is_named(&device, 1, b"USART10"));
+    assert!(rt; refused(&delete(rt.alloc(), 1, &[], &other, &mut total, &mut device)) == 1);
     Ok(())
 }
 
 #[test]
 fn a_register_in_a_cluster_in_a_cluster_is_deleted(rt: HostRuntime) -> Result<(), Fail> {
-    let parents = [
-        Pattern::new(rt.alloc(), b"T")?,
-        Pattern::new(rt.alloc(), b"K")?,
-        Pattern::new(rt.alloc(), b"*")?,
-    ];
+    let parents = patterns(rt.alloc(), &["T", "K", "*"])?;
     let pattern = Pattern::new(rt.alloc(), b"R")?;
-    let mut device = read_device(rt.alloc(), NESTED.as_bytes())?.into_device();
+    let mut device = read_device(rt.alloc(), NESTED)?.into_device();
     let mut total = device.elements();
-    open(rt.alloc(), 4, &parents, &pattern, &mut total, &mut device)?;
+    open(
+        rt.alloc(),
+        4,
+        parents.as_slice(),
+        &pattern,
+        &mut total,
+        &mut device,
+    )?;
     assert!(rt; total == 7);
-    delete(rt.alloc(), 5, &parents, &pattern, &mut total, &mut device)?;
+    delete(
+        rt.alloc(),
+        5,
+        parents.as_slice(),
+        &pattern,
+        &mut total,
+        &mut device,
+    )?;
     assert!(rt; total == 4 && device.elements() == 4);
     Ok(())
 }
 
 #[test]
 fn nothing_matches_in_a_field(rt: HostRuntime) -> Result<(), Fail> {
-    let parents = [
-        Pattern::new(rt.alloc(), b"T")?,
-        Pattern::new(rt.alloc(), b"K")?,
-        Pattern::new(rt.alloc(), b"L")?,
-        Pattern::new(rt.alloc(), b"R")?,
-        Pattern::new(rt.alloc(), b"G")?,
-    ];
+    let parents = patterns(rt.alloc(), &["T", "K", "L", "R", "G"])?;
     let pattern = Pattern::new(rt.alloc(), b"*")?;
-    let mut device = read_device(rt.alloc(), NESTED.as_bytes())?.into_device();
+    let mut device = read_device(rt.alloc(), NESTED)?.into_device();
     let mut total = device.elements();
-    let done = delete(rt.alloc(), 7, &parents, &pattern, &mut total, &mut device);
+    let done = delete(
+        rt.alloc(),
+        7,
+        parents.as_slice(),
+        &pattern,
+        &mut total,
+        &mut device,
+    );
     assert!(rt; refused(&done) == 7);
     Ok(())
 }

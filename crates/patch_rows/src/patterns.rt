@@ -27,12 +27,20 @@ fn has_all(pattern: &Pattern, names: &[&str], wanted: bool) -> bool {
     true
 }
 
+fn matches_so(
+    alloc: Global,
+    text: &str,
+    names: &[&str],
+    others: &[&str],
+) -> Result<bool, PatternFault> {
+    let pattern = Pattern::new(alloc, text.as_bytes())?;
+    Ok(has_all(&pattern, names, true) && has_all(&pattern, others, false))
+}
+
 #[test]
 fn patterns_match_whole_names(rt: HostRuntime) -> Result<(), Fail> {
     for &(text, names, others) in MATCHES {
-        let pattern = Pattern::new(rt.alloc(), text.as_bytes())?;
-        assert!(rt; has_all(&pattern, names, true), "{text}");
-        assert!(rt; has_all(&pattern, others, false), "{text}");
+        assert!(rt; matches_so(rt.alloc(), text, names, others)?, "{text}");
     }
     Ok(())
 }
@@ -74,13 +82,26 @@ fn other_texts_are_bad_patterns(rt: HostRuntime) -> Result<(), Fail> {
     Ok(())
 }
 
+/// Whether the copy of a pattern matches this name.
+fn copy_matches(alloc: Global, text: &str, name: &str) -> Result<bool, PatternFault> {
+    let pattern = Pattern::new(alloc, text.as_bytes())?;
+    Ok(pattern.copy()?.matches(name.as_bytes()))
+}
+
+/// Whether a pattern of one open item is this text without it.
+fn is_without(alloc: Global, text: &str, plain: Option<&str>) -> Result<bool, PatternFault> {
+    let pattern = Pattern::new(alloc, text.as_bytes())?;
+    match (pattern.without_open(alloc)?, plain) {
+        (Some(found), Some(plain)) => Ok(found.as_slice() == plain.as_bytes()),
+        (None, None) => Ok(true),
+        _ => Ok(false),
+    }
+}
+
 #[test]
 fn copied_and_without_the_open_item(rt: HostRuntime) -> Result<(), Fail> {
-    let pattern = Pattern::new(rt.alloc(), b" C[1-4]R")?;
-    assert!(rt; pattern.copy()?.matches(b"C3R"));
-    let plain = pattern.without_open(rt.alloc())?.ok_or("a text")?;
-    assert!(rt; plain.as_slice() == b"CR".as_slice());
-    let two = Pattern::new(rt.alloc(), b"C*R?")?;
-    assert!(rt; two.without_open(rt.alloc())?.is_none());
+    assert!(rt; copy_matches(rt.alloc(), " C[1-4]R", "C3R")?);
+    assert!(rt; is_without(rt.alloc(), " C[1-4]R", Some("CR"))?);
+    assert!(rt; is_without(rt.alloc(), "C*R?", None)?);
     Ok(())
 }
