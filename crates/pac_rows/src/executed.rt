@@ -202,6 +202,30 @@ fn directions_refused(rt: HostRuntime) -> Result<(), Fail> {
 // status, the lines of the accesses before, and the fault.
 const MIDWAY: &[(&[u8], u64, u64, u8, &[u8], &str)] = &[
     (
+        b"let a = T.cr().read();\nT.cr().reset();\nlet b = T.dr().read();",
+        1,
+        0,
+        5,
+        b"",
+        "the bus failed after 0 events",
+    ),
+    (
+        b"let a = T.cr().read();\nT.cr().reset();\nlet b = T.dr().read();",
+        2,
+        0,
+        5,
+        b"read 0x40000000 32 0x00000000\n",
+        "the bus failed after 1 events",
+    ),
+    (
+        b"let a = T.cr().read();\nT.cr().reset();\nlet b = T.dr().read();",
+        3,
+        0,
+        5,
+        b"read 0x40000000 32 0x00000000\nwrite 0x40000000 32 0x00000000\n",
+        "the bus failed after 2 events",
+    ),
+    (
         b"let a = T.cr().read();\nlet b = T.cr().read();",
         2,
         0,

@@ -55,7 +55,7 @@ fn deletion_takes_away_all_that_match(rt: HostRuntime) -> Result<(), Fail> {
     let mut device = read_device(rt.alloc(), TIMERS)?.into_device();
     let mut total = device.elements();
     delete(rt.alloc(), 1, &[], &pattern, &mut total, &mut device)?;
-    assert!(rt; total == device.elements());
+    assert!(rt; total == 4);
     assert!(rt; device.peripherals.len() == 2);
     assert!(rt; is_named(&device, 0, b"TIM4"));
     assert!(rt; is_named(&device, 1, b"USART10"));
