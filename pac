@@ -56,7 +56,7 @@ build() {
     trap 'exit 130' INT
     trap 'exit 143' TERM
     folder="$(mktemp -d)" && mkdir "$folder/room" && touch "$folder/began" "$folder/said" || exit 70
-    say "$1: proving and building it, ${#below[@]} crates; from nothing about 25 minutes on four processors"
+    say "$1: proving and building it, ${#below[@]} crates; from nothing about an hour on four processors"
     say "after a quick pass over all of them comes a line for each as it is proved"
     exec 3< <(cd "$top/crates/pac_main" && TMPDIR="$folder/room" exec rt run -- list data/one_register.svd 2>&1 </dev/null)
     builder=$!
