@@ -78,9 +78,16 @@ block_if there [] block = []
 block_if true (call ∷ calls) block = block ∷ []
 block_if false (call ∷ calls) block = []
 
+-- the calls that read a field's values, and those that write them
+abbrev pub tests_of : Field → List Values
+tests_of field = block_if field.readable field.tests (read_values (is_bit field) field)
+
+abbrev pub sets_of : Field → List Values
+sets_of field = block_if field.writable field.sets (write_values (is_bit field) field)
+
 -- the calls of a field's values: those that read, and then those that write
 abbrev pub values_of : Field → List Values
-values_of field = block_if field.readable field.tests (read_values (is_bit field) field) ++ block_if field.writable field.sets (write_values (is_bit field) field)
+values_of field = tests_of field ++ sets_of field
 
 -- ---- what a field keeps
 

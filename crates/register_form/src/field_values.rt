@@ -1,5 +1,5 @@
 ghost use Rattle.std.specs.Prelude.{◌≡◌, ◌++◌, map, IfOk, OnOk};
-ghost use Rattle.register_form.specs.Fields.{is_bit, read_values, truth_call_of, values_of, write_values};
+ghost use Rattle.register_form.specs.Fields.{is_bit, read_values, sets_of, tests_of, truth_call_of, values_of, write_values};
 
 use crate::field::least_width;
 use crate::register::Field;
@@ -71,6 +71,26 @@ fn write_values(alloc: Global, field: &Field) -> Result<Values, NoMemory>
     })
 }
 
+// Adds the calls that read a field's values.
+fn push_tests(alloc: Global, blocks: &mut Seq<Values>, field: &Field) -> Result<(), NoMemory>
+    ensures { OnOk result (blocks.new ≡ blocks.old ++ tests_of field.now) }
+{
+    if field.readable && field.tests.len() > 0 {
+        blocks.push(read_values(alloc, field)?)?;
+    }
+    Ok(())
+}
+
+// Adds the calls that write a field's values.
+fn push_sets(alloc: Global, blocks: &mut Seq<Values>, field: &Field) -> Result<(), NoMemory>
+    ensures { OnOk result (blocks.new ≡ blocks.old ++ sets_of field.now) }
+{
+    if field.writable && field.sets.len() > 0 {
+        blocks.push(write_values(alloc, field)?)?;
+    }
+    Ok(())
+}
+
 /// Adds the calls of a field's values: those that read, and then those that write.
 pub(crate) fn push_values(
     alloc: Global,
@@ -79,11 +99,6 @@ pub(crate) fn push_values(
 ) -> Result<(), NoMemory>
     ensures { OnOk result (blocks.new ≡ blocks.old ++ values_of field.now) }
 {
-    if field.readable && field.tests.len() > 0 {
-        blocks.push(read_values(alloc, field)?)?;
-    }
-    if field.writable && field.sets.len() > 0 {
-        blocks.push(write_values(alloc, field)?)?;
-    }
-    Ok(())
+    push_tests(alloc, blocks, field)?;
+    push_sets(alloc, blocks, field)
 }
