@@ -251,25 +251,18 @@ const MIDWAY: &[(&[u8], u64, u64, u8, &[u8], &str)] = &[
     ),
 ];
 
-/// Whether a script answers so where something fails.
+/// Whether a script against a crate text answers so where something fails.
 fn stops(
     alloc: Global,
+    krate: &[u8],
     script: &[u8],
-    access: u64,
-    write: u64,
+    failing: Failing,
     wanted: &Wanted<'_>,
 ) -> Result<bool, NoMemory> {
-    let text = gapped(alloc, "8")?;
-    let files = [("x.rs", text.as_bytes()), ("x.script", script)];
-    let failing = Failing {
-        read: 0,
-        write,
-        access,
-    };
     answers_where(
         alloc,
         &["exec", "x.rs", "x.script"],
-        &files,
+        &[("x.rs", krate), ("x.script", script)],
         failing,
         wanted,
     )
@@ -277,14 +270,20 @@ fn stops(
 
 #[test]
 fn bus_fails_midway(rt: HostRuntime) -> Result<(), Fail> {
+    let text = gapped(rt.alloc(), "8")?;
     for &(script, access, write, status, output, fault) in MIDWAY {
+        let failing = Failing {
+            read: 0,
+            write,
+            access,
+        };
         let wanted = Wanted {
             status,
             output,
             fault,
         };
         assert!(rt;
-            stops(rt.alloc(), script, access, write, &wanted)?,
+            stops(rt.alloc(), text.as_bytes(), script, failing, &wanted)?,
             "{fault}"
         );
     }
