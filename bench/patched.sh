@@ -1,6 +1,7 @@
 #!/usr/bin/env bash
 # Times `pac list` with patches of 1,000 and 10,000 commands of each kind, each in a register of its own, on descriptions of 8
-# and 32 MB, beside `pac list` of the same description without a patch.
+# and 32 MB, beside `pac list` of the same description without a patch. Then a patch of 2,000 commands within one pattern of 1 MB:
+# the memory that it takes beyond the list without it, as a multiple of the patch.
 top="$(cd "$(dirname "$0")/.." && pwd)" || exit 2
 program="$top/crates/pac_main/out/pac_main"
 [ -x "$program" ] || { echo "build the program first: $top/pac list $top/examples/one_register.svd" >&2; exit 2; }
@@ -21,3 +22,17 @@ for registers in 14592 58368; do
         done
     done
 done
+
+"$top/bench/dense_description" 64 "$folder/device.svd"
+# The first of so many patterns leads to a peripheral of the description.
+python3 - "$folder/patch.yaml" <<'PYTHON'
+import sys
+with open(sys.argv[1], "w", encoding="utf-8") as out:
+    out.write("\"P0" + ",Q" * 500_000 + "\":\n  R0:\n    _add:\n")
+    for command in range(2000):
+        out.write(f"      N{command}:\n        bitOffset: 24\n        bitWidth: 1\n")
+PYTHON
+read -r list_time list_memory < <(best "$program" list "$folder/device.svd")
+read -r time memory < <(best "$program" list "$folder/device.svd" --patch "$folder/patch.yaml")
+awk -v p="$(stat -c %s "$folder/patch.yaml")" -v t="$time" -v m="$memory" -v j="$list_memory" \
+    'BEGIN { printf "\n2,000 commands within a pattern of 1 MB: a patch of %.1f MB, %.2f s, memory beyond the list %.1f times the patch\n", p / 1e6, t, (m - j) * 1024 / p }'

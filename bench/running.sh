@@ -1,6 +1,7 @@
 #!/usr/bin/env bash
 # Times `pac exec` of 65,536 statements on crate texts of growing size that `pac generate` prints, beside rustc: with -O it
-# builds the same text with support/generic.rs and the same calls, which then run on the recording bus. rustc is timed once.
+# builds the same text with support/generic.rs and the same calls, which then run on the recording bus. rustc is timed once, and
+# given up after ten minutes.
 top="$(cd "$(dirname "$0")/.." && pwd)" || exit 2
 program="$top/crates/pac_main/out/pac_main"
 [ -x "$program" ] || { echo "build the program first: $top/pac list $top/examples/one_register.svd" >&2; exit 2; }
@@ -36,10 +37,15 @@ PYTHON
     apart || exit 1
     exec_time="$(least 0 '' "$program" exec "$folder/rust/device.rs" "$folder/many.script" --bus memory)" || exit 1
     cp "$folder/out" "$folder/events"
-    /usr/bin/time -f %e -o "$folder/rustc_time" bash -c 'rustc --edition 2021 -O -A warnings --cfg "feature=\"recording\"" -o "$0/run" "$0/rust/main.rs" && "$0/run" >"$0/rust_events"' "$folder" ||
-        { echo "rustc failed" >&2; exit 1; }
-    # The two lines differ where a first read gives the reset word: exec presets it, and the recording bus here doesn't.
-    [ "$(grep -c write "$folder/events")" -eq "$(grep -c write "$folder/rust_events")" ] || { echo "the accesses differ" >&2; exit 1; }
-    awk -v b="$(stat -c %s "$folder/rust/device.rs")" -v d="$read_time" -v t="$typed_time" -v e="$exec_time" -v r="$(cat "$folder/rustc_time")" \
-        'BEGIN { printf "%8.1f %8.2f %8.2f %8.2f %8.2f %9.2f %12.4f\n", b / 1e6, d, t - d, e - t, e, r, e / r }'
+    /usr/bin/time -q -f %e -o "$folder/rustc_time" timeout 600 bash -c 'rustc --edition 2021 -O -A warnings --cfg "feature=\"recording\"" -o "$0/run" "$0/rust/main.rs" && "$0/run" >"$0/rust_events"' "$folder"
+    case $? in
+        # The two lines differ where a first read gives the reset word: exec presets it, and the recording bus here doesn't.
+        0) [ "$(grep -c write "$folder/events")" -eq "$(grep -c write "$folder/rust_events")" ] || { echo "the accesses differ" >&2; exit 1; }
+            more= ;;
+        124) more='>' ;;
+        *) echo "rustc failed" >&2; exit 1 ;;
+    esac
+    awk -v b="$(stat -c %s "$folder/rust/device.rs")" -v d="$read_time" -v t="$typed_time" -v e="$exec_time" -v r="$(tail -n 1 "$folder/rustc_time")" -v m="$more" \
+        'BEGIN { printf "%8.1f %8.2f %8.2f %8.2f %8.2f %9s %12s\n", b / 1e6, d, t - d, e - t, e, sprintf("%s%.2f", m, r),
+            sprintf("%s%.4f", m ? "<" : "", e / r) }'
 done
