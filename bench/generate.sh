@@ -25,5 +25,5 @@ for made in 1 8 32 registers; do
     awk -v d="$made" -v t="$(stat -c %s "$folder/text")" -v p="$pac_time" -v l="$list_time" -v c="$ten_times" -v r="$run_time" \
         -v k="$pac_memory" -v j="$list_memory" -v b="$(stat -c %s "$folder/device.svd")" \
         'BEGIN { c /= 10; printf "%9s %6.1f %8.1f %11.2f %7.2f %7.3f %11s %12.1f %8.1f %6.2f\n", d, b / 1e6, t / 1e6, p, l, c,
-            c > 0 ? sprintf("%.1f", (p - l) / c) : "-", k * 1024 / b, j * 1024 / b, r }'
+            (c > 0 ? sprintf("%.1f", (p - l) / c) : "-"), k * 1024 / b, j * 1024 / b, r }'
 done
