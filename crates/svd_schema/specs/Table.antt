@@ -9,135 +9,135 @@ use Rattle.svd_schema.specs.declared.key.Key.TheVariants.{Name, AddressUnitBits,
 use Rattle.svd_schema.specs.declared.roles.Role.{Role}
 use Rattle.svd_schema.specs.declared.roles.Role.TheVariants.{Holds, States, PassedOver}
 
--- the elements that may stand in a container, by name, with what each is there; in rising order of their names
+-- the elements that may stand in a container, by name, with what each is there; those that are met most often first
 unfoldable pub row_of : Container → List (List ℕ × Role)
 row_of Device =
-    (codes "access", States Access) ∷
-    (codes "addressUnitBits", States AddressUnitBits) ∷
-    (codes "cpu", PassedOver) ∷
-    (codes "description", PassedOver) ∷
-    (codes "headerDefinitionsPrefix", PassedOver) ∷
-    (codes "headerSystemFilename", PassedOver) ∷
-    (codes "licenseText", PassedOver) ∷
     (codes "name", States Name) ∷
     (codes "peripherals", Holds Peripherals) ∷
-    (codes "protection", PassedOver) ∷
-    (codes "resetMask", States ResetMask) ∷
-    (codes "resetValue", States ResetValue) ∷
-    (codes "series", PassedOver) ∷
     (codes "size", States Size) ∷
+    (codes "access", States Access) ∷
+    (codes "resetValue", States ResetValue) ∷
+    (codes "resetMask", States ResetMask) ∷
+    (codes "addressUnitBits", States AddressUnitBits) ∷
+    (codes "width", PassedOver) ∷
+    (codes "description", PassedOver) ∷
     (codes "vendor", PassedOver) ∷
-    (codes "vendorExtensions", PassedOver) ∷
     (codes "vendorID", PassedOver) ∷
+    (codes "series", PassedOver) ∷
     (codes "version", PassedOver) ∷
-    (codes "width", PassedOver) ∷ []
+    (codes "licenseText", PassedOver) ∷
+    (codes "cpu", PassedOver) ∷
+    (codes "headerSystemFilename", PassedOver) ∷
+    (codes "headerDefinitionsPrefix", PassedOver) ∷
+    (codes "protection", PassedOver) ∷
+    (codes "vendorExtensions", PassedOver) ∷ []
 row_of Peripherals =
     (codes "peripheral", Holds Peripheral) ∷
     (codes "vendorExtensions", PassedOver) ∷ []
 row_of Peripheral =
-    (codes "access", States Access) ∷
-    (codes "addressBlock", PassedOver) ∷
-    (codes "alternatePeripheral", PassedOver) ∷
-    (codes "appendToName", PassedOver) ∷
-    (codes "baseAddress", States BaseAddress) ∷
+    (codes "name", States Name) ∷
     (codes "description", PassedOver) ∷
+    (codes "baseAddress", States BaseAddress) ∷
+    (codes "registers", Holds Registers) ∷
+    (codes "groupName", PassedOver) ∷
+    (codes "interrupt", PassedOver) ∷
+    (codes "addressBlock", PassedOver) ∷
+    (codes "size", States Size) ∷
+    (codes "access", States Access) ∷
+    (codes "resetValue", States ResetValue) ∷
+    (codes "resetMask", States ResetMask) ∷
+    (codes "protection", PassedOver) ∷
+    (codes "version", PassedOver) ∷
+    (codes "prependToName", PassedOver) ∷
+    (codes "appendToName", PassedOver) ∷
+    (codes "alternatePeripheral", PassedOver) ∷
+    (codes "headerStructName", PassedOver) ∷
+    (codes "disableCondition", PassedOver) ∷
     (codes "dim", States Dim) ∷
-    (codes "dimArrayIndex", PassedOver) ∷
     (codes "dimIncrement", States DimIncrement) ∷
     (codes "dimIndex", States DimIndex) ∷
     (codes "dimName", PassedOver) ∷
-    (codes "disableCondition", PassedOver) ∷
-    (codes "groupName", PassedOver) ∷
-    (codes "headerStructName", PassedOver) ∷
-    (codes "interrupt", PassedOver) ∷
-    (codes "name", States Name) ∷
-    (codes "prependToName", PassedOver) ∷
-    (codes "protection", PassedOver) ∷
-    (codes "registers", Holds Registers) ∷
-    (codes "resetMask", States ResetMask) ∷
-    (codes "resetValue", States ResetValue) ∷
-    (codes "size", States Size) ∷
-    (codes "vendorExtensions", PassedOver) ∷
-    (codes "version", PassedOver) ∷ []
+    (codes "dimArrayIndex", PassedOver) ∷
+    (codes "vendorExtensions", PassedOver) ∷ []
 row_of Registers =
-    (codes "cluster", Holds Cluster) ∷
     (codes "register", Holds Register) ∷
+    (codes "cluster", Holds Cluster) ∷
     (codes "vendorExtensions", PassedOver) ∷ []
 row_of Cluster =
-    (codes "access", States Access) ∷
-    (codes "addressOffset", States AddressOffset) ∷
-    (codes "alternateCluster", States AlternateCluster) ∷
-    (codes "cluster", Holds Cluster) ∷
+    (codes "name", States Name) ∷
     (codes "description", PassedOver) ∷
+    (codes "addressOffset", States AddressOffset) ∷
+    (codes "register", Holds Register) ∷
+    (codes "cluster", Holds Cluster) ∷
+    (codes "size", States Size) ∷
+    (codes "access", States Access) ∷
+    (codes "resetValue", States ResetValue) ∷
+    (codes "resetMask", States ResetMask) ∷
+    (codes "protection", PassedOver) ∷
+    (codes "alternateCluster", States AlternateCluster) ∷
+    (codes "headerStructName", PassedOver) ∷
     (codes "dim", States Dim) ∷
-    (codes "dimArrayIndex", PassedOver) ∷
     (codes "dimIncrement", States DimIncrement) ∷
     (codes "dimIndex", States DimIndex) ∷
     (codes "dimName", PassedOver) ∷
-    (codes "headerStructName", PassedOver) ∷
-    (codes "name", States Name) ∷
-    (codes "protection", PassedOver) ∷
-    (codes "register", Holds Register) ∷
-    (codes "resetMask", States ResetMask) ∷
-    (codes "resetValue", States ResetValue) ∷
-    (codes "size", States Size) ∷
+    (codes "dimArrayIndex", PassedOver) ∷
     (codes "vendorExtensions", PassedOver) ∷ []
 row_of Register =
-    (codes "access", States Access) ∷
+    (codes "name", States Name) ∷
+    (codes "description", PassedOver) ∷
     (codes "addressOffset", States AddressOffset) ∷
+    (codes "size", States Size) ∷
+    (codes "access", States Access) ∷
+    (codes "resetValue", States ResetValue) ∷
+    (codes "fields", Holds Fields) ∷
+    (codes "displayName", PassedOver) ∷
+    (codes "resetMask", States ResetMask) ∷
+    (codes "modifiedWriteValues", States ModifiedWriteValues) ∷
+    (codes "readAction", States ReadAction) ∷
+    (codes "writeConstraint", PassedOver) ∷
     (codes "alternateGroup", States AlternateGroup) ∷
     (codes "alternateRegister", States AlternateRegister) ∷
     (codes "dataType", PassedOver) ∷
-    (codes "description", PassedOver) ∷
+    (codes "protection", PassedOver) ∷
     (codes "dim", States Dim) ∷
-    (codes "dimArrayIndex", PassedOver) ∷
     (codes "dimIncrement", States DimIncrement) ∷
     (codes "dimIndex", States DimIndex) ∷
     (codes "dimName", PassedOver) ∷
-    (codes "displayName", PassedOver) ∷
-    (codes "fields", Holds Fields) ∷
-    (codes "modifiedWriteValues", States ModifiedWriteValues) ∷
-    (codes "name", States Name) ∷
-    (codes "protection", PassedOver) ∷
-    (codes "readAction", States ReadAction) ∷
-    (codes "resetMask", States ResetMask) ∷
-    (codes "resetValue", States ResetValue) ∷
-    (codes "size", States Size) ∷
-    (codes "vendorExtensions", PassedOver) ∷
-    (codes "writeConstraint", PassedOver) ∷ []
+    (codes "dimArrayIndex", PassedOver) ∷
+    (codes "vendorExtensions", PassedOver) ∷ []
 row_of Fields =
     (codes "field", Holds Field) ∷
     (codes "vendorExtensions", PassedOver) ∷ []
 row_of Field =
-    (codes "access", States Access) ∷
-    (codes "bitOffset", States BitOffset) ∷
-    (codes "bitRange", States BitRange) ∷
-    (codes "bitWidth", States BitWidth) ∷
+    (codes "name", States Name) ∷
     (codes "description", PassedOver) ∷
+    (codes "bitOffset", States BitOffset) ∷
+    (codes "bitWidth", States BitWidth) ∷
+    (codes "access", States Access) ∷
+    (codes "lsb", States Lsb) ∷
+    (codes "msb", States Msb) ∷
+    (codes "bitRange", States BitRange) ∷
+    (codes "enumeratedValues", Holds ValueSet) ∷
+    (codes "modifiedWriteValues", States ModifiedWriteValues) ∷
+    (codes "readAction", States ReadAction) ∷
+    (codes "writeConstraint", PassedOver) ∷
     (codes "dim", States Dim) ∷
-    (codes "dimArrayIndex", PassedOver) ∷
     (codes "dimIncrement", States DimIncrement) ∷
     (codes "dimIndex", States DimIndex) ∷
     (codes "dimName", PassedOver) ∷
-    (codes "enumeratedValues", Holds ValueSet) ∷
-    (codes "lsb", States Lsb) ∷
-    (codes "modifiedWriteValues", States ModifiedWriteValues) ∷
-    (codes "msb", States Msb) ∷
-    (codes "name", States Name) ∷
-    (codes "readAction", States ReadAction) ∷
-    (codes "vendorExtensions", PassedOver) ∷
-    (codes "writeConstraint", PassedOver) ∷ []
+    (codes "dimArrayIndex", PassedOver) ∷
+    (codes "vendorExtensions", PassedOver) ∷ []
 row_of ValueSet =
     (codes "enumeratedValue", Holds Variant) ∷
-    (codes "headerEnumName", PassedOver) ∷
     (codes "name", States Name) ∷
     (codes "usage", States Usage) ∷
+    (codes "headerEnumName", PassedOver) ∷
     (codes "vendorExtensions", PassedOver) ∷ []
 row_of Variant =
-    (codes "description", PassedOver) ∷
-    (codes "isDefault", States IsDefault) ∷
     (codes "name", States Name) ∷
+    (codes "description", PassedOver) ∷
     (codes "value", States Value) ∷
+    (codes "isDefault", States IsDefault) ∷
     (codes "vendorExtensions", PassedOver) ∷ []
 
 -- what an element of that name is in the container; none where it may not stand there

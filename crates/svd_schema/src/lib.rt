@@ -8,7 +8,6 @@ mod key;
 mod name;
 mod roles;
 mod rows;
-mod table;
 
 pub use container::Container;
 pub use key::Key;

@@ -6,7 +6,7 @@ use Rattle.std.proofs.lemmas.Bool.Decides.{nat_tests}
 use Rattle.std.proofs.lemmas.List.{append-nil}
 use Rattle.svd_text.specs.declared.content.Content.{Content}
 use Rattle.svd_text.specs.declared.content.Content.TheVariants.{Whole, Behind, Parts, Value, Anything}
-use Rattle.svd_text.specs.Contents.{content_in, MaySay, MayRefer}
+use Rattle.svd_text.specs.Contents.{role_in, content_in, MaySay, MayRefer}
 use Rattle.svd_text.specs.ElementText.{Outline, Contents, nothing, says, refers, comments, holds}
 use Rattle.svd_text.specs.Machine.{Outcome, goes, sinks, ◌>>=◌}
 use Rattle.svd_text.specs.Nesting.{name_span, tags_in, depth_limit, first_deeper}
@@ -38,6 +38,7 @@ deeper-append (tag ∷ tags) later =
 abbrev pub grown : ℕ → Contents → Open → Open
 grown total contents element = record {
   content = end_of element.content contents;
+  role = element.role;
   name = element.name;
   name_at = element.name_at;
   source = element.source;
@@ -80,6 +81,7 @@ said-content (Parts container) element said = refl
 abbrev grown_in : Content → ℕ → Contents → Open → Open
 grown_in content total contents element = record {
   content = end_of content contents;
+  role = element.role;
   name = element.name;
   name_at = element.name_at;
   source = element.source;
@@ -91,7 +93,7 @@ grown_in content total contents element = record {
 says-grown : (content : Content) (total : ℕ) (said behind : List ℕ) (others : Contents) (element : Open) → grown_in content total others (said_by content element said) ≡ grown_in content total (says said behind others) element
 unfolding end_of words_in elements_in
 says-grown Value total said behind others element =
-    ap (λ (s : List ℕ). record { content = end_of Value others; name = element.name; name_at = element.name_at; source = element.source; inside = element.inside; said = s; children = element.children ++ elements_in total Value others }) (append_assoc element.said said (words_in others))
+    ap (λ (s : List ℕ). record { content = end_of Value others; role = element.role; name = element.name; name_at = element.name_at; source = element.source; inside = element.inside; said = s; children = element.children ++ elements_in total Value others }) (append_assoc element.said said (words_in others))
 says-grown Anything total said behind others element = refl
 says-grown Whole total said behind others element = refl
 says-grown Behind total said behind others element = refl
@@ -100,7 +102,7 @@ says-grown (Parts container) total said behind others element = refl
 refers-grown : (content : Content) (total scalar : ℕ) (behind : List ℕ) (others : Contents) (element : Open) → grown_in content total others (said_by content element (encode_utf8 scalar)) ≡ grown_in content total (refers scalar behind others) element
 unfolding end_of words_in elements_in
 refers-grown Value total scalar behind others element =
-    ap (λ (s : List ℕ). record { content = end_of Value others; name = element.name; name_at = element.name_at; source = element.source; inside = element.inside; said = s; children = element.children ++ elements_in total Value others }) (append_assoc element.said (encode_utf8 scalar) (words_in others))
+    ap (λ (s : List ℕ). record { content = end_of Value others; role = element.role; name = element.name; name_at = element.name_at; source = element.source; inside = element.inside; said = s; children = element.children ++ elements_in total Value others }) (append_assoc element.said (encode_utf8 scalar) (words_in others))
 refers-grown Anything total scalar behind others element = refl
 refers-grown Whole total scalar behind others element = refl
 refers-grown Behind total scalar behind others element = refl
@@ -123,7 +125,7 @@ behind-same total (refers scalar behind others) = behind-same total others
 behind-same total (comments behind others) = behind-same total others
 behind-same total (holds outline inside others) =
     let inner = content_in Whole outline.tag.name in
-    ap (λ (more : List (Head × Elements)). (head_of total outline (said_in inner inside), side_by_side (elements_in total inner inside)) ∷ more) (behind-same total others)
+    ap (λ (more : List (Head × Elements)). (head_of total (role_in Whole outline.tag.name) outline (said_in inner inside), side_by_side (elements_in total inner inside)) ∷ more) (behind-same total others)
 
 past-elements : (content : Content) (total : ℕ) (contents : Contents) → elements_in total (past content) contents ≡ elements_in total content contents
 past-elements Whole total contents = behind-same total contents
@@ -153,6 +155,7 @@ holds-grown total outline inside others element =
     append_assoc element.children (child ∷ []) (elements_in total (past element.content) others) ∙ ap (λ (more : List (Head × Elements)). element.children ++ child ∷ more) (past-elements element.content total others) in
     λ i. record {
       content = end_of (past element.content) others;
+      role = element.role;
       name = element.name;
       name_at = element.name_at;
       source = element.source;
@@ -205,7 +208,7 @@ unfolding first_deeper end_of elements_in
 nothing-goes total element =
     let said : element.said ++ said_in element.content nothing ≡ element.said = ap (λ (s : List ℕ). element.said ++ s) (nothing-said element.content) ∙ append-nil element.said in
     let children : element.children ++ [] ≡ element.children = append-nil element.children in
-    sym (λ i. goes (record { content = element.content; name = element.name; name_at = element.name_at; source = element.source; inside = element.inside; said = said i; children = children i }))
+    sym (λ i. goes (record { content = element.content; role = element.role; name = element.name; name_at = element.name_at; source = element.source; inside = element.inside; said = said i; children = children i }))
 
 opened_allowed : (total : ℕ) (outline : Outline) (inside : Contents) (content : Content) → Allowed (content_in content outline.tag.name) inside → Allowed (opened_in total content outline.tag outline.from outline.inside).content inside
 unfolding opened_in

@@ -4,10 +4,9 @@ use Rattle.std.specs.Prelude.{codes}
 use Rattle.std.proofs.lemmas.Slice.Eq.{bytes_eq-Decides}
 use Rattle.svd_schema.specs.declared.roles.Role.{Role}
 use Rattle.svd_schema.specs.declared.roles.Role.TheVariants.{Holds, States, PassedOver}
-use Rattle.svd_schema.specs.Table.{role_of}
 use Rattle.svd_text.specs.declared.content.Content.{Content}
 use Rattle.svd_text.specs.declared.content.Content.TheVariants.{Whole, Behind, Parts, Value, Anything}
-use Rattle.svd_text.specs.Contents.{content_by, content_in}
+use Rattle.svd_text.specs.Contents.{role_in, content_by, content_in}
 use Rattle.svd_text.specs.ElementText.{Contents, nothing, says, refers, comments, holds, Fit, names_in}
 use Rattle.svd_text.specs.Reading.{may_open, past}
 use Rattle.svd_text.specs.TextElements.{elements_in}
@@ -27,11 +26,7 @@ by-inner (Some PassedOver) = refl
 by-inner None = refl
 
 content_in-inner : (content : Content) (name : List ℕ) → is_inner (content_in content name) ≡ true
-content_in-inner Whole name = refl
-content_in-inner Behind name = refl
-content_in-inner (Parts container) name = by-inner (role_of container name)
-content_in-inner Value name = refl
-content_in-inner Anything name = refl
+content_in-inner content name = by-inner (role_in content name)
 
 inner-opens : (content : Content) (name : List ℕ) → is_inner content ≡ true → may_open content name ≡ true
 inner-opens Whole name inner = absurd cc

@@ -11,7 +11,15 @@ use Rattle.text_scan.specs.declared.class.Class.TheVariants.{Blank}
 use Rattle.text_scan.specs.Classes.{has}
 use Rattle.text_scan.specs.Fronts.{Passes}
 
--- by what an element is in its container
+-- what an element of that name is, by what the one round it may hold
+abbrev pub role_in : Content → List ℕ → Option Role
+role_in Whole name = Some (Holds Device)
+role_in Behind name = Some (Holds Device)
+role_in (Parts container) name = role_of container name
+role_in Value name = None
+role_in Anything name = None
+
+-- what an element may hold, by what it is in its container
 abbrev pub content_by : Option Role → Content
 content_by (Some (Holds container)) = Parts container
 content_by (Some (States key)) = Value
@@ -20,11 +28,7 @@ content_by None = Anything
 
 -- what an element of that name may hold, by what the one round it may hold
 abbrev pub content_in : Content → List ℕ → Content
-content_in Whole name = Parts Device
-content_in Behind name = Parts Device
-content_in (Parts container) name = content_by (role_of container name)
-content_in Value name = Anything
-content_in Anything name = Anything
+content_in outer name = content_by (role_in outer name)
 
 -- whether a text may stand there
 abbrev pub MaySay : Content → List ℕ → Type 0

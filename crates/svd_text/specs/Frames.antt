@@ -11,6 +11,7 @@ use Rattle.svd_text.specs.Views.{said_of, source_of, element_of}
 abbrev pub open_of : Frame → Open
 open_of frame = record {
   content = frame.content;
+  role = frame.opening.role;
   name = frame.opening.name.now;
   name_at = frame.opening.name_at;
   source = option_map source_of frame.opening.source;

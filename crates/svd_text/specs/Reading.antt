@@ -4,13 +4,14 @@ use Rattle.std.specs.List.{list_all}
 use Rattle.std.specs.Str.{bytes_eq}
 use Rattle.text_scan.specs.declared.class.Class.TheVariants.{Blank}
 use Rattle.text_scan.specs.Classes.{has}
+use Rattle.svd_schema.specs.declared.roles.Role.{Role}
 use Rattle.xml_text.specs.Parts.{XmlTag, XmlPart, starts}
 use Rattle.svd_text.specs.declared.content.Content.{Content}
 use Rattle.svd_text.specs.declared.content.Content.TheVariants.{Whole, Behind, Value, Anything}
 use Rattle.svd_text.specs.declared.element.Element.{Element}
 use Rattle.svd_text.specs.declared.fault.TextFault.{TextFault}
 use Rattle.svd_text.specs.declared.fault.TextFault.TheVariants.{Syntax, TooDeep, Memory}
-use Rattle.svd_text.specs.Contents.{content_in}
+use Rattle.svd_text.specs.Contents.{role_in, content_in}
 use Rattle.svd_text.specs.Machine.{Outcome, goes, breaks, sinks, ◌>>=◌, Machine, State, run, parts_of}
 use Rattle.svd_text.specs.Nesting.{depth_limit}
 use Rattle.svd_text.specs.TextElements.{source_in}
@@ -60,6 +61,7 @@ span_of total tag from = (total - length from + 1, total - length from + 1 + len
 -- an element that is open, or the whole text, with the elements that have ended in it
 pub record Open : Type 0 where
   pub content : Content
+  pub role : Option Role
   pub name : List ℕ
   pub name_at : ℕ
   pub source : Option (List ℕ × ℕ)
@@ -68,14 +70,14 @@ pub record Open : Type 0 where
   pub children : List (Head × Elements)
 
 unfoldable pub whole_text : Open
-whole_text = record { content = Whole; name = []; name_at = 0; source = None; inside = []; said = []; children = [] }
+whole_text = record { content = Whole; role = None; name = []; name_at = 0; source = None; inside = []; said = []; children = [] }
 
 -- nothing but the whole text is open
 abbrev pub beginning : State Open
 beginning = record { top = whole_text; outer = [] }
 
 abbrev pub more_said : Open → List ℕ → Open
-more_said element more = record { content = element.content; name = element.name; name_at = element.name_at; source = element.source; inside = element.inside; said = element.said ++ more; children = element.children }
+more_said element more = record { content = element.content; role = element.role; name = element.name; name_at = element.name_at; source = element.source; inside = element.inside; said = element.said ++ more; children = element.children }
 
 abbrev pub says_by : Content → Open → List ℕ → Outcome Open
 says_by Value element said = goes (more_said element said)
@@ -94,7 +96,7 @@ unfoldable pub refers_in : Open → ℕ → Outcome Open
 refers_in element scalar = refers_by element.content element scalar
 
 unfoldable pub opened_in : ℕ → Content → XmlTag → List ℕ → List ℕ → Open
-opened_in total outer tag from behind = record { content = content_in outer tag.name; name = tag.name; name_at = total - length from + 1; source = source_in total tag.attributes; inside = behind; said = []; children = [] }
+opened_in total outer tag from behind = record { content = content_in outer tag.name; role = role_in outer tag.name; name = tag.name; name_at = total - length from + 1; source = source_in total tag.attributes; inside = behind; said = []; children = [] }
 
 -- so many elements are open round the innermost
 unfoldable pub opens_in : ℕ → ℕ → Content → XmlTag → List ℕ → List ℕ → Outcome Open
@@ -105,6 +107,7 @@ opens_in total depth outer tag from behind =
 unfoldable pub closed : ℕ → Open → List ℕ → List ℕ → (Head × Elements)
 closed total element closing behind = (
   record {
+    role = element.role;
     name = element.name;
     name_at = element.name_at;
     source = element.source;
@@ -117,7 +120,7 @@ closed total element closing behind = (
 )
 
 unfoldable pub with_child : Open → (Head × Elements) → Open
-with_child element child = record { content = past element.content; name = element.name; name_at = element.name_at; source = element.source; inside = element.inside; said = element.said; children = element.children ++ child ∷ [] }
+with_child element child = record { content = past element.content; role = element.role; name = element.name; name_at = element.name_at; source = element.source; inside = element.inside; said = element.said; children = element.children ++ child ∷ [] }
 
 -- the reader of elements
 abbrev pub building : ℕ → Machine Open

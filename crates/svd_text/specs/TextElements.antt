@@ -1,10 +1,11 @@
 -- The elements of a description's text, each with its places and with what it says.
 use Rattle.std.specs.Prelude.{ℕ, ◌+◌, ◌-◌, List, [], ◌∷◌, ◌++◌, length, take, Option, Some, None, codes, encode_utf8, if◌then◌else◌}
 use Rattle.std.specs.Str.{bytes_eq}
+use Rattle.svd_schema.specs.declared.roles.Role.{Role}
 use Rattle.xml_text.specs.Parts.{XmlAttribute}
 use Rattle.svd_text.specs.declared.content.Content.{Content}
 use Rattle.svd_text.specs.declared.content.Content.TheVariants.{Whole, Value}
-use Rattle.svd_text.specs.Contents.{content_in}
+use Rattle.svd_text.specs.Contents.{role_in, content_in}
 use Rattle.svd_text.specs.ElementText.{Outline, Contents, nothing, says, refers, comments, holds, Text}
 use Rattle.svd_text.specs.Tree.{Head, Elements, none, side_by_side}
 
@@ -26,9 +27,10 @@ abbrev pub said_in : Content → Contents → List ℕ
 said_in Value contents = words_in contents
 said_in _ contents = []
 
--- where an element stands in a text of so many bytes, and what it says
-abbrev pub head_of : ℕ → Outline → List ℕ → Head
-head_of total outline said = record {
+-- what an element is, where it stands in a text of so many bytes, and what it says
+abbrev pub head_of : ℕ → Option Role → Outline → List ℕ → Head
+head_of total role outline said = record {
+  role = role;
   name = outline.tag.name;
   name_at = total - length outline.from + 1;
   source = source_in total outline.tag.attributes;
@@ -45,12 +47,12 @@ elements_in total content (says said behind others) = elements_in total content 
 elements_in total content (refers scalar behind others) = elements_in total content others
 elements_in total content (comments behind others) = elements_in total content others
 elements_in total content (holds outline inside others) =
-    (head_of total outline (said_in (content_in content outline.tag.name) inside), side_by_side (elements_in total (content_in content outline.tag.name) inside))
+    (head_of total (role_in content outline.tag.name) outline (said_in (content_in content outline.tag.name) inside), side_by_side (elements_in total (content_in content outline.tag.name) inside))
     ∷ elements_in total content others
 
 -- the first element; a spelled text has one
 abbrev pub first_of : List (Head × Elements) → (Head × Elements)
-first_of [] = (record { name = []; name_at = 0; source = None; inside_at = 0; inside = []; said = []; ends_at = 0 }, none)
+first_of [] = (record { role = None; name = []; name_at = 0; source = None; inside_at = 0; inside = []; said = []; ends_at = 0 }, none)
 first_of (first ∷ others) = first
 
 -- the device of a text

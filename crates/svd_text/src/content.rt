@@ -1,5 +1,5 @@
 ghost use Rattle.std.specs.Prelude.{◌≡◌};
-ghost use Rattle.svd_text.specs.Contents.{content_in, content_by};
+ghost use Rattle.svd_text.specs.Contents.{role_in, content_by};
 ghost use Rattle.svd_text.specs.Reading.{may_open, past, is_white};
 
 use svd_schema::{Container, Role, role};
@@ -20,26 +20,26 @@ pub enum Content {
     Anything,
 }
 
-fn content_by(role: Option<Role>) -> Content
-    ensures { result ≡ content_by role }
-{
-    match role {
-        Some(Role::Holds(container)) => Content::Parts(container),
-        Some(Role::States(_)) => Content::Value,
-        Some(Role::PassedOver) => Content::Anything,
-        None => Content::Anything,
-    }
-}
-
 impl Content {
-    /// What an element of that name may hold, if it stands in what may hold this.
-    pub fn within(self, name: &[u8]) -> Content
-        ensures { result ≡ content_in self name.now }
+    /// What an element may hold that is this in its container.
+    pub fn of(role: Option<Role>) -> Content
+        ensures { result ≡ content_by role }
+    {
+        match role {
+            Some(Role::Holds(container)) => Content::Parts(container),
+            Some(Role::States(_)) => Content::Value,
+            Some(Role::PassedOver) | None => Content::Anything,
+        }
+    }
+
+    /// What an element of that name is, if it stands in what may hold this.
+    pub fn role(self, name: &[u8]) -> Option<Role>
+        ensures { result ≡ role_in self name.now }
     {
         match self {
-            Content::Whole | Content::Behind => Content::Parts(Container::Device),
-            Content::Parts(container) => content_by(role(container, name)),
-            Content::Value | Content::Anything => Content::Anything,
+            Content::Whole | Content::Behind => Some(Role::Holds(Container::Device)),
+            Content::Parts(container) => role(container, name),
+            Content::Value | Content::Anything => None,
         }
     }
 

@@ -1,9 +1,13 @@
 use crate::said::Said;
+use svd_schema::Role;
 
 /// An element of a description's text. Its places are bytes from the beginning of the text, from 0.
 #[derive(Drop)]
 #[cycle(tree)]
 pub struct Element<'a> {
+    /// What it is in the container that it stands in; none where it may not stand there, and of what
+    /// stands in a key or in what is passed over.
+    pub role: Option<Role>,
     /// Its name.
     pub name: &'a [u8],
     /// Where its name begins in its start tag.

@@ -12,11 +12,13 @@ use crate::fault::TextFault;
 use crate::place::{name_place, name_span, place};
 use crate::said::Said;
 use std::alloc::Global;
+use svd_schema::Role;
 use xml_text::{Attribute, Tag};
 
 /// What the start tag of an element tells.
 #[derive(Clone, Copy)]
 pub struct Opening<'a> {
+    pub role: Option<Role>,
     pub name: &'a [u8],
     pub name_at: u32,
     pub source: Option<Source<'a>>,
@@ -60,6 +62,7 @@ impl<'a> Frame<'a> {
         Frame {
             content: Content::Whole,
             opening: Opening {
+                role: None,
                 name: &[],
                 name_at: 0,
                 source: None,
@@ -70,60 +73,51 @@ impl<'a> Frame<'a> {
         }
     }
 
-    /// The element with a text in it that stands at a place.
+    /// A text stands in it, at a place.
     #[tactic(auto, unfolding(crate::specs::Reading::says_in))]
-    pub fn says(self, alloc: Global, text: &'a [u8], at: u32) -> Result<Frame<'a>, TextFault>
-        ensures { Gives open_of result (says_in (open_of self.entry) text.now) }
+    pub fn says(&mut self, alloc: Global, text: &'a [u8], at: u32) -> Result<(), TextFault>
+        ensures { Gives (λ _. open_of self.new) result (says_in (open_of self.old) text.now) }
     {
         match self.content {
-            Content::Anything => Ok(self),
-            Content::Value => Ok(Frame {
-                content: self.content,
-                opening: self.opening,
-                said: self.said.and_text(alloc, text)?,
-                children: self.children,
-            }),
+            Content::Anything => Ok(()),
+            Content::Value => {
+                self.said.push_text(alloc, text)?;
+                Ok(())
+            }
             Content::Whole | Content::Behind | Content::Parts(_) => {
                 if !is_white(text) {
                     return Err(TextFault::Syntax { at });
                 }
-                Ok(self)
+                Ok(())
             }
         }
     }
 
-    /// The element with a reference in it that stands at a place.
+    /// A reference stands in it, at a place.
     #[tactic(auto, unfolding(crate::specs::Reading::refers_in))]
-    pub fn refers(self, alloc: Global, scalar: char, at: u32) -> Result<Frame<'a>, TextFault>
-        ensures { Gives open_of result (refers_in (open_of self.entry) scalar) }
+    pub fn refers(&mut self, alloc: Global, scalar: char, at: u32) -> Result<(), TextFault>
+        ensures { Gives (λ _. open_of self.new) result (refers_in (open_of self.old) scalar) }
     {
         match self.content {
-            Content::Anything => Ok(self),
-            Content::Value => Ok(Frame {
-                content: self.content,
-                opening: self.opening,
-                said: self.said.and_character(alloc, scalar)?,
-                children: self.children,
-            }),
+            Content::Anything => Ok(()),
+            Content::Value => {
+                self.said.push_character(alloc, scalar)?;
+                Ok(())
+            }
             Content::Whole | Content::Behind | Content::Parts(_) => Err(TextFault::Syntax { at }),
         }
     }
 
-    /// The element with one in it that has ended.
+    /// An element in it has ended.
     #[tactic(auto, unfolding(crate::specs::Reading::with_child))]
-    pub fn with_child(self, child: Element<'a>) -> Result<Frame<'a>, TextFault>
+    pub fn take_child(&mut self, child: Element<'a>) -> Result<(), TextFault>
         ensures { MatchResult result
-            (λ frame. open_of frame ≡ with_child (open_of self.entry) (element_of child.entry))
+            (λ _. open_of self.new ≡ with_child (open_of self.old) (element_of child.entry))
             (λ fault. fault ≡ TextFault.Memory) }
     {
-        let mut children = self.children;
-        children.push(child)?;
-        Ok(Frame {
-            content: self.content.past(),
-            opening: self.opening,
-            said: self.said,
-            children,
-        })
+        self.children.push(child)?;
+        self.content = self.content.past();
+        Ok(())
     }
 
     /// The element as it ends: the text that its end tag begins, and the text behind it.
@@ -135,6 +129,7 @@ impl<'a> Frame<'a> {
         let mut children = self.children;
         children.shrink_to_fit();
         Element {
+            role: self.opening.role,
             name: self.opening.name,
             name_at: self.opening.name_at,
             source: self.opening.source,
@@ -160,9 +155,11 @@ fn opened_in<'a>(
     requires { total ≤ 67_108_864 }
     ensures { open_of result ≡ opened_in total outer (tag_of tag.now) from.now behind.now }
 {
+    let role = outer.role(tag.name);
     Frame {
-        content: outer.within(tag.name),
+        content: Content::of(role),
         opening: Opening {
+            role,
             name: tag.name,
             name_at: name_place(total, from),
             source: source_in(total, &tag.attributes),

@@ -44,7 +44,7 @@ impl<'a> Passed<'a> {
             return Err(TextFault::Syntax { at });
         }
         Ok(Passed {
-            content: self.content.within(name),
+            content: Content::of(self.content.role(name)),
             name,
         })
     }

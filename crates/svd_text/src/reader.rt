@@ -12,6 +12,7 @@ use crate::frame::{Frame, open_in};
 use crate::part::next_part;
 use crate::place::place;
 use std::alloc::Global;
+use std::mem;
 use xml_text::{Part, Tag};
 
 /// What is open while a text is read: the innermost element, or the whole text, and those round it,
@@ -33,79 +34,60 @@ impl<'a> Reader<'a> {
     }
 
     fn start(
-        self,
+        &mut self,
         alloc: Global,
         total: u32,
         tag: Tag<'a>,
         from: &[u8],
         behind: &'a [u8],
-    ) -> Result<Reader<'a>, TextFault>
+    ) -> Result<(), TextFault>
         requires total { total ≤ 67_108_864 }
         requires name { length tag.name.now ≤ 67_108_864 }
-        ensures { Gives state_of result (step (building total) (state_of self.entry) (starts (tag_of tag.entry)) from.now behind.now) }
+        ensures { Gives (λ _. state_of self.new) result (step (building total) (state_of self.old) (starts (tag_of tag.entry)) from.now behind.now) }
     {
         let depth = self.outer.len();
         let frame = open_in(alloc, total, depth, self.top.content, &tag, from, behind)?;
         if tag.closes_itself {
-            return Ok(Reader {
-                top: self.top.with_child(frame.closed(total, behind, behind))?,
-                outer: self.outer,
-            });
+            return self.top.take_child(frame.closed(total, behind, behind));
         }
-        let mut outer = self.outer;
-        outer.push(self.top)?;
-        Ok(Reader { top: frame, outer })
+        self.outer.push(mem::replace(&mut self.top, frame))?;
+        Ok(())
     }
 
-    fn end(
-        self,
-        total: u32,
-        name: &[u8],
-        from: &[u8],
-        behind: &[u8],
-    ) -> Result<Reader<'a>, TextFault>
-        ensures { Gives state_of result (step (building total) (state_of self.entry) (ends name.now) from.now behind.now) }
+    fn end(&mut self, total: u32, name: &[u8], from: &[u8], behind: &[u8]) -> Result<(), TextFault>
+        ensures { Gives (λ _. state_of self.new) result (step (building total) (state_of self.old) (ends name.now) from.now behind.now) }
     {
         let at = place(total, from.len());
-        let mut outer = self.outer;
-        let Some(parent) = outer.pop() else {
+        let Some(parent) = self.outer.pop() else {
             return Err(TextFault::Syntax { at });
         };
         if name != self.top.opening.name {
             return Err(TextFault::Syntax { at });
         }
-        Ok(Reader {
-            top: parent.with_child(self.top.closed(total, from, behind))?,
-            outer,
-        })
+        let ended = mem::replace(&mut self.top, parent);
+        self.top.take_child(ended.closed(total, from, behind))
     }
 
-    /// What is open behind one more part: the text that it begins, and the text behind it.
+    /// One more part stands in it: the text that it begins, and the text behind it.
     fn step(
-        self,
+        &mut self,
         alloc: Global,
         total: u32,
         part: Part<'a>,
         from: &[u8],
         behind: &'a [u8],
-    ) -> Result<Reader<'a>, TextFault>
+    ) -> Result<(), TextFault>
         requires total { total ≤ 67_108_864 }
         requires named { NamesWithin 67108864 (part_of part) }
-        ensures { Gives state_of result (step (building total) (state_of self.entry) (part_of part.entry) from.now behind.now) }
+        ensures { Gives (λ _. state_of self.new) result (step (building total) (state_of self.old) (part_of part.entry) from.now behind.now) }
     {
         let at = place(total, from.len());
         match part {
             Part::Start(tag) => self.start(alloc, total, tag, from, behind),
             Part::End(name) => self.end(total, name, from, behind),
-            Part::Text(said) => Ok(Reader {
-                top: self.top.says(alloc, said, at)?,
-                outer: self.outer,
-            }),
-            Part::Reference(scalar) => Ok(Reader {
-                top: self.top.refers(alloc, scalar, at)?,
-                outer: self.outer,
-            }),
-            Part::Comment => Ok(self),
+            Part::Text(said) => self.top.says(alloc, said, at),
+            Part::Reference(scalar) => self.top.refers(alloc, scalar, at),
+            Part::Comment => Ok(()),
         }
     }
 
@@ -133,7 +115,7 @@ fn read_parts<'a>(alloc: Global, total: u32, body: &'a [u8]) -> Result<Reader<'a
     let mut rest = body;
     while !rest.is_empty() {
         let (part, behind) = next_part(alloc, total, rest)?;
-        reader = reader.step(alloc, total, part, rest, behind)?;
+        reader.step(alloc, total, part, rest, behind)?;
         rest = behind;
     }
     Ok(reader)

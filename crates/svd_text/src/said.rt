@@ -23,39 +23,39 @@ impl<'a> Said<'a> {
         }
     }
 
-    fn into_bytes(self, alloc: Global) -> Result<Vec<u8>, AllocError>
-        ensures { IfOk result (λ bytes. bytes.items ≡ said_of self.entry) }
+    /// More text stands behind it.
+    pub fn push_text(&mut self, alloc: Global, more: &'a [u8]) -> Result<(), AllocError>
+        ensures { IfOk result (λ _. said_of self.new ≡ said_of self.old ++ more.now) }
+    {
+        if self.bytes().is_empty() {
+            *self = Said::Borrowed(more);
+            return Ok(());
+        }
+        self.push(alloc, more)
+    }
+
+    /// More bytes stand behind it, which are put together with it.
+    pub fn push(&mut self, alloc: Global, more: &[u8]) -> Result<(), AllocError>
+        ensures { IfOk result (λ _. said_of self.new ≡ said_of self.old ++ more.now) }
     {
         match self {
+            Said::Owned(bytes) => bytes.extend_from_slice(more),
             Said::Borrowed(said) => {
                 let mut bytes = Vec::new(alloc);
                 bytes.extend_from_slice(said)?;
-                Ok(bytes)
+                bytes.extend_from_slice(more)?;
+                *self = Said::Owned(bytes);
+                Ok(())
             }
-            Said::Owned(said) => Ok(said),
         }
     }
 
-    /// The same with more text behind it.
-    pub fn and_text(self, alloc: Global, more: &'a [u8]) -> Result<Said<'a>, AllocError>
-        ensures { IfOk result (λ said. said_of said ≡ said_of self.entry ++ more.now) }
-    {
-        if self.bytes().is_empty() {
-            return Ok(Said::Borrowed(more));
-        }
-        let mut bytes = self.into_bytes(alloc)?;
-        bytes.extend_from_slice(more)?;
-        Ok(Said::Owned(bytes))
-    }
-
-    /// The same with a character behind it.
-    pub fn and_character(self, alloc: Global, scalar: char) -> Result<Said<'a>, AllocError>
-        ensures { IfOk result (λ said. said_of said ≡ said_of self.entry ++ encode_utf8 scalar) }
+    /// A character stands behind it.
+    pub fn push_character(&mut self, alloc: Global, scalar: char) -> Result<(), AllocError>
+        ensures { IfOk result (λ _. said_of self.new ≡ said_of self.old ++ encode_utf8 scalar) }
     {
         let mut spelled = String::new(alloc);
         spelled.push(scalar)?;
-        let mut bytes = self.into_bytes(alloc)?;
-        bytes.extend_from_slice(spelled.as_bytes())?;
-        Ok(Said::Owned(bytes))
+        self.push(alloc, spelled.as_bytes())
     }
 }

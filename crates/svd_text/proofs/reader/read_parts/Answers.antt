@@ -13,16 +13,16 @@ returns-in_err-part c =
     rw (fault.1, fault.2) (run_broken (building c.args.total) c.in_err-part.field-0.0 c.loop-rest.rest.now (state_of c.loop-rest.reader) (run (building c.args.total) (parts_of c.args.body.now) beginning)
     c.loop-rest-test.ensures c.in_err-part.ensures.read c.loop-rest.invariant.0)
 
-pub returns-in_err-reader : goal.returns-in_err-reader
-returns-in_err-reader c =
-    let fault = err_from_is_err_and c.from_residual-in_err-reader.result c.from_residual-in_err-reader.ensures.1 in
-    rw (fault.1, fault.2) (run_stops (building c.args.total) c.in_err-reader.field-0.0 c.loop-rest.rest.now (part_of c.in_ok-part.part) c.in_ok-part.behind.now (state_of c.loop-rest.reader) (run (building c.args.total) (parts_of c.args.body.now) beginning)
-    c.in_ok-part.ensures.read c.in_err-reader.ensures c.loop-rest.invariant.0)
+pub returns-in_err-step : goal.returns-in_err-step
+returns-in_err-step c =
+    let fault = err_from_is_err_and c.from_residual-in_err-step.result c.from_residual-in_err-step.ensures.1 in
+    rw (fault.1, fault.2) (run_stops (building c.args.total) c.in_err-step.field-0.0 c.loop-rest.rest.now (part_of c.in_ok-part.part) c.in_ok-part.behind.now (state_of c.loop-rest.reader) (run (building c.args.total) (parts_of c.args.body.now) beginning)
+    c.in_ok-part.ensures.read c.in_err-step.ensures c.loop-rest.invariant.0)
 
 pub loop-rest-preserved : goal.loop-rest-preserved
 loop-rest-preserved c = (
-  run_goes_on (building c.args.total) c.loop-rest.rest.now (part_of c.in_ok-part.part) c.in_ok-part.behind.now (state_of c.loop-rest.reader) (state_of c.in_ok-reader.reader) (run (building c.args.total) (parts_of c.args.body.now) beginning)
-      c.in_ok-part.ensures.read c.in_ok-reader.ensures c.loop-rest.invariant.0,
+  run_goes_on (building c.args.total) c.loop-rest.rest.now (part_of c.in_ok-part.part) c.in_ok-part.behind.now (state_of c.loop-rest.reader) _ (run (building c.args.total) (parts_of c.args.body.now) beginning)
+      c.in_ok-part.ensures.read c.in_ok-step.ensures c.loop-rest.invariant.0,
   omega (arith, c.loop-rest.invariant.1, c.in_ok-part.ensures.shorter),
 )
 
