@@ -7,6 +7,8 @@ pub mod Lacks
 pub mod Loops
 pub mod Orders
 pub mod Paths
+pub mod RoleNumbers
 pub mod Seen
+pub mod Strays
 pub mod Trimming
 pub mod WrittenNames

@@ -10,7 +10,7 @@ use Rattle.svd_text.specs.Views.{element_of, element_layer, said_of, source_of}
 
 pub element_of-is : (e : Element) → element_of e
     ≡ (
-      record { name = (out-Element e).name.now; name_at = (out-Element e).name_at; source = option_map source_of (out-Element e).source; inside_at = (out-Element e).inside_at; inside = (out-Element e).inside.now; said = said_of (out-Element e).said; ends_at = (out-Element e).ends_at },
+      record { name = (out-Element e).name.now; role = (out-Element e).role; name_at = (out-Element e).name_at; source = option_map source_of (out-Element e).source; inside_at = (out-Element e).inside_at; inside = (out-Element e).inside.now; said = said_of (out-Element e).said; ends_at = (out-Element e).ends_at },
       side_by_side (map element_of (out-Element e).children.items),
     )
 unfolding element_of
@@ -28,8 +28,8 @@ members-of e = ap (λ (tree : Tree). members tree.1) (element_of-is e) ∙ membe
 pub name_at-of : (e : Element) → (out-Element e).name_at ≡ (element_of e).0.name_at
 name_at-of e = sym (ap (λ (tree : Tree). tree.0.name_at) (element_of-is e))
 
-pub name-of : (e : Element) → (out-Element e).name.now ≡ (element_of e).0.name
-name-of e = sym (ap (λ (tree : Tree). tree.0.name) (element_of-is e))
+pub role-of : (e : Element) → (out-Element e).role ≡ (element_of e).0.role
+role-of e = sym (ap (λ (tree : Tree). tree.0.role) (element_of-is e))
 
 pub ends_at-of : (e : Element) → (out-Element e).ends_at ≡ (element_of e).0.ends_at
 ends_at-of e = sym (ap (λ (tree : Tree). tree.0.ends_at) (element_of-is e))

@@ -1,11 +1,13 @@
--- The elements in an element by their names (CMSIS-SVD 1.3). Of several elements of one name the first counts.
-use Rattle.std.specs.Prelude.{ℕ, List, [], ◌∷◌, ◌++◌, map, filter, find, flat_map, Bool, is_none, is_some, Option, if◌then◌else◌}
-use Rattle.std.specs.Str.{bytes_eq}
-use Rattle.svd_schema.specs.declared.container.Container.{Container}
-use Rattle.svd_schema.specs.Table.{role_of}
+-- The elements in an element by what they are there (CMSIS-SVD 1.3). Of several elements of one role the first counts.
+use Rattle.std.specs.Prelude.{List, [], ◌∷◌, ◌++◌, map, find, Bool, true, false, ◌&&◌, ◌||◌, is_some, Option, Some, None, if◌then◌else◌}
+use Rattle.svd_schema.specs.declared.container.Container.TheVariants.{Peripherals, Registers, Fields}
+use Rattle.svd_schema.specs.declared.key.Key.{Key}
+use Rattle.svd_schema.specs.declared.roles.Role.{Role}
+use Rattle.svd_schema.specs.declared.roles.Role.TheVariants.{Holds, States}
 use Rattle.svd_text.specs.Tree.{Head, Elements, none, element}
 use Rattle.svd_keys.specs.declared.fault.PlacedFault.{PlacedFault}
 use Rattle.svd_keys.specs.declared.fault.Fault.TheVariants.{UnknownElement, DoubleElement}
+use Rattle.svd_keys.specs.Roles.{is_role}
 use Rattle.svd_keys.specs.Texts.{name_span}
 
 -- an element with those in it
@@ -17,16 +19,20 @@ unfoldable pub members : Elements → List Tree
 members none = []
 members (element head children siblings) = (head, children) ∷ members siblings
 
-abbrev pub has_name : List ℕ → Tree → Bool
-has_name name tree = bytes_eq tree.0.name name
+abbrev pub has_role : Role → Tree → Bool
+has_role role tree = is_role role tree.0.role
 
--- the first element of that name in an element
-unfoldable pub child : List ℕ → Tree → Option Tree
-child name tree = find (has_name name) (members tree.1)
+-- the first element of that role in an element
+unfoldable pub first : Role → Tree → Option Tree
+first role tree = find (has_role role) (members tree.1)
 
--- whether an element of that name stands in an element
-abbrev pub holds : List ℕ → Tree → Bool
-holds name tree = is_some (child name tree)
+-- the first element in an element that is this key
+abbrev pub child : Key → Tree → Option Tree
+child key tree = first (States key) tree
+
+-- whether an element of that role stands in an element
+abbrev pub holds : Role → Tree → Bool
+holds role tree = is_some (first role tree)
 
 -- an element that may not stand where it stands
 abbrev pub unknown : Tree → PlacedFault
@@ -40,31 +46,38 @@ double tree = record { at = tree.0.name_at; fault = DoubleElement (name_span tre
 abbrev pub when : {X : Type 0} → Bool → X → List X
 when test fault = if test then fault ∷ [] else []
 
--- an element that isn't in the container's row
-unfoldable pub unknown_at : Container → Tree → List PlacedFault
-unknown_at container tree = when (is_none (role_of container tree.0.name)) (unknown tree)
+-- what may stand once in an element: a key, or a list of elements
+unfoldable pub is_single : Role → Bool
+is_single (States key) = true
+is_single (Holds Peripherals) = true
+is_single (Holds Registers) = true
+is_single (Holds Fields) = true
+is_single _ = false
 
--- the elements in a container that aren't in its row
-unfoldable pub unknown_in : Container → Tree → List PlacedFault
-unknown_in container tree = flat_map (unknown_at container) (members tree.1)
+-- an element of this role may stand once and stood before
+abbrev pub is_again : (Role → Bool) → Option Role → Bool
+is_again stood None = false
+is_again stood (Some role) = is_single role && stood role
 
 -- the elements in a key: none may stand there
-unfoldable pub unknown_in_key : Tree → List PlacedFault
-unknown_in_key tree = map unknown (members tree.1)
+unfoldable pub unknowns : Tree → List PlacedFault
+unknowns tree = map unknown (members tree.1)
 
--- the elements in the keys of that name
-unfoldable pub unknown_in_keys : List ℕ → Tree → List PlacedFault
-unknown_in_keys name tree = flat_map unknown_in_key (filter (has_name name) (members tree.1))
+-- what may not stand: an element without a role, and all elements in a key
+unfoldable pub misplaced : Option Role → Tree → List PlacedFault
+misplaced None tree = unknown tree ∷ []
+misplaced (Some (States key)) tree = unknowns tree
+misplaced _ tree = []
 
--- of elements of one name each but the first stands again
-unfoldable pub doubles : List Tree → List PlacedFault
-doubles [] = []
-doubles (first ∷ others) = map double others
+-- the faults of an element in another by what it is there, as it stands again or not
+unfoldable pub stray : Bool → Tree → List PlacedFault
+stray again tree = when again (double tree) ++ misplaced tree.0.role tree
 
--- the elements of that name that stand again in an element
-unfoldable pub double_of : List ℕ → Tree → List PlacedFault
-double_of name tree = doubles (filter (has_name name) (members tree.1))
+-- of elements in an element, behind others in it, of which `stood` tells the roles
+unfoldable pub strays_behind : (Role → Bool) → List Tree → List PlacedFault
+strays_behind stood [] = []
+strays_behind stood (tree ∷ trees) = stray (is_again stood tree.0.role) tree ++ strays_behind (λ role. stood role || has_role role tree) trees
 
--- a key stands again, or elements stand in it
-unfoldable pub strays : List ℕ → Tree → List PlacedFault
-strays name tree = double_of name tree ++ unknown_in_keys name tree
+-- of all elements in an element
+unfoldable pub strays : Tree → List PlacedFault
+strays tree = strays_behind (λ role. false) (members tree.1)

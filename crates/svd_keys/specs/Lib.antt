@@ -1,6 +1,7 @@
 pub mod Earliest
 pub mod Texts
 pub mod Forms
+pub mod Roles
 pub mod Children
 pub mod Runs
 pub mod Values

@@ -5,6 +5,8 @@ use Rattle.svd_schema.specs.declared.container.Container.TheVariants.{Device, Pe
 use Rattle.svd_schema.specs.declared.container.Container.TheVariants as container
 use Rattle.svd_schema.specs.declared.key.Key.{Key}
 use Rattle.svd_schema.specs.declared.key.Key.TheVariants as key
+use Rattle.svd_schema.specs.declared.roles.Role.{Role}
+use Rattle.svd_schema.specs.declared.roles.Role.TheVariants.{Holds, States}
 use Rattle.svd_schema.specs.Names.{key_name, container_name}
 use Rattle.svd_keys.specs.declared.fault.Required.{Required}
 use Rattle.svd_keys.specs.declared.fault.Required.TheVariants as required
@@ -20,12 +22,17 @@ abbrev pub required_name : Required → List ℕ
 required_name required.Peripherals = container_name container.Peripherals
 required_name (required.Stated key) = key_name key
 
+-- what it is in its container
+unfoldable pub required_role : Required → Role
+required_role required.Peripherals = Holds container.Peripherals
+required_role (required.Stated key) = States key
+
 abbrev pub states : Key → Tree → Bool
-states key tree = holds (key_name key) tree
+states key tree = holds (States key) tree
 
 -- it isn't there
 abbrev pub lack : Required → Tree → List Required
-lack wanted tree = when (not (holds (required_name wanted) tree)) wanted
+lack wanted tree = when (not (holds (required_role wanted) tree)) wanted
 
 -- a key isn't there
 abbrev pub lack_key : Key → Tree → List Required

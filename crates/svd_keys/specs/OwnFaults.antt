@@ -4,14 +4,12 @@
 use Rattle.std.specs.Prelude.{ℕ, List, [], ◌++◌, is_none, Option, Some, None}
 use Rattle.svd_schema.specs.declared.container.Container.{Container}
 use Rattle.svd_schema.specs.declared.container.Container.TheVariants.{Device, Peripherals, Peripheral, Registers, Cluster, Register, Fields, Field, ValueSet, Variant}
-use Rattle.svd_schema.specs.declared.container.Container.TheVariants as container
 use Rattle.svd_schema.specs.declared.key.Key.{Key}
 use Rattle.svd_schema.specs.declared.key.Key.TheVariants as key
-use Rattle.svd_schema.specs.Names.{container_name}
 use Rattle.svd_keys.specs.declared.fault.BadKind.TheVariants as bad
 use Rattle.svd_keys.specs.declared.fault.PlacedFault.{PlacedFault}
 use Rattle.svd_keys.specs.declared.fault.Fault.TheVariants.{BadValue}
-use Rattle.svd_keys.specs.Children.{Tree, when, unknown_in, double_of}
+use Rattle.svd_keys.specs.Children.{Tree, when, strays}
 use Rattle.svd_keys.specs.Forms.{number_of, bits_of, unit_of, access_of, kind_of, action_of, usage_of, flag_of, name_of, label_of, index_of, path_of}
 use Rattle.svd_keys.specs.Missing.{missing_faults}
 use Rattle.svd_keys.specs.Places.{place_faults}
@@ -53,14 +51,14 @@ source_faults (Some source) = when (is_none (path_of source.0)) (bad_source sour
 unfoldable pub named_faults : Tree → List PlacedFault
 named_faults tree = name_faults key.Name tree ++ (source_faults tree.0.source ++ dim_faults tree)
 
--- the faults of an element's keys, and the containers that stand again in it
+-- the faults of the values of an element's keys
 unfoldable pub row_faults : Container → Tree → List PlacedFault
 row_faults Device tree =
     key_faults label_of bad.Name key.Name tree
-    ++ (key_faults unit_of bad.Number key.AddressUnitBits tree ++ (property_faults tree ++ double_of (container_name container.Peripherals) tree))
+    ++ (key_faults unit_of bad.Number key.AddressUnitBits tree ++ property_faults tree)
 row_faults Peripherals tree = []
 row_faults Peripheral tree =
-    named_faults tree ++ (number_faults key.BaseAddress tree ++ (property_faults tree ++ double_of (container_name container.Registers) tree))
+    named_faults tree ++ (number_faults key.BaseAddress tree ++ property_faults tree)
 row_faults Registers tree = []
 row_faults Cluster tree =
     named_faults tree ++ (number_faults key.AddressOffset tree ++ (name_faults key.AlternateCluster tree ++ property_faults tree))
@@ -68,7 +66,7 @@ row_faults Register tree =
     named_faults tree
     ++ (number_faults key.AddressOffset tree
     ++ (name_faults key.AlternateGroup tree
-    ++ (name_faults key.AlternateRegister tree ++ (property_faults tree ++ (effect_faults tree ++ double_of (container_name container.Fields) tree)))))
+    ++ (name_faults key.AlternateRegister tree ++ (property_faults tree ++ effect_faults tree))))
 row_faults Fields tree = []
 row_faults Field tree =
     named_faults tree ++ (place_faults tree ++ (key_faults access_of bad.Word key.Access tree ++ effect_faults tree))
@@ -78,4 +76,4 @@ row_faults Variant tree =
 
 -- every fault of an element by itself
 unfoldable pub own_faults : Container → Tree → List PlacedFault
-own_faults container tree = unknown_in container tree ++ (row_faults container tree ++ missing_faults container tree)
+own_faults container tree = strays tree ++ (row_faults container tree ++ missing_faults container tree)

@@ -2,7 +2,6 @@
 -- stands counts, and the others are held to numbers alone.
 use Rattle.std.specs.Prelude.{ℕ, ◌==◌, nat_le, nat_lt, List, [], ◌++◌, Bool, false, ◌&&◌, if◌then◌else◌, Option, Some, None, unwrap_or}
 use Rattle.svd_schema.specs.declared.key.Key.TheVariants as key
-use Rattle.svd_schema.specs.Names.{key_name}
 use Rattle.svd_values.specs.declared.place.Place.{Place}
 use Rattle.svd_values.specs.Places.{place_between}
 use Rattle.svd_keys.specs.declared.fault.BadKind.TheVariants as bad
@@ -39,7 +38,7 @@ bad_place test (Some found) = when test (bad_value bad.Place found)
 unfoldable pub form_faults : Option ℕ → Option ℕ → Option ℕ → Tree → List PlacedFault
 form_faults low high width tree =
     if states key.BitRange tree then []
-    else (if has_ends tree then bad_place (falls low high) (child (key_name key.Msb) tree) else bad_place (is_zero width) (child (key_name key.BitWidth) tree))
+    else (if has_ends tree then bad_place (falls low high) (child key.Msb tree) else bad_place (is_zero width) (child key.BitWidth tree))
 
 -- every fault of a field's place
 unfoldable pub place_faults : Tree → List PlacedFault

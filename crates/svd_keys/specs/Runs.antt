@@ -1,19 +1,14 @@
 -- What runs over the elements in an element gather, one by one.
-use Rattle.std.specs.Prelude.{ℕ, List, [], ◌∷◌, ◌++◌, Bool, ◌&&◌, ◌||◌, ◌==◌, not, map, Option, Some, None, if◌then◌else◌}
+use Rattle.std.specs.Prelude.{ℕ, List, [], ◌∷◌, ◌++◌, Bool, false, ◌==◌, not, map, get_or, Option, Some, None, if◌then◌else◌}
 use Rattle.std.specs.List.{list_all}
 use Rattle.pac_base.specs.declared.path.Step.{Step}
-use Rattle.svd_keys.specs.declared.fault.PlacedFault.{PlacedFault}
+use Rattle.svd_schema.specs.declared.roles.Role.{Role}
 use Rattle.svd_keys.specs.Forms.{is_name, step_to}
-use Rattle.svd_keys.specs.Children.{Tree, has_name, unknown_in_key, double, when}
+use Rattle.svd_keys.specs.Roles.{number}
 
--- the elements in a key, where it has that name
-unfoldable pub within : List ℕ → Tree → List PlacedFault
-within name tree = if has_name name tree then unknown_in_key tree else []
-
--- the elements of that name that stand again among these, where one stood before or not
-unfoldable pub doubles_among : List ℕ → Bool → List Tree → List PlacedFault
-doubles_among name seen [] = []
-doubles_among name seen (tree ∷ trees) = when (seen && has_name name tree) (double tree) ++ doubles_among name (seen || has_name name tree) trees
+-- the roles of the elements that stood so far, by their numbers
+abbrev pub stood_in : List Bool → Role → Bool
+stood_in stood role = get_or stood (number role) false
 
 -- a byte of a part of a path: any but a dot
 abbrev pub is_part_byte : ℕ → Bool

@@ -1,17 +1,16 @@
 -- The values of an element's keys, and what is wrong with them (CMSIS-SVD 1.3).
-use Rattle.std.specs.Prelude.{◌≡◌, ℕ, List, [], ◌++◌, is_none, Option, Some, None, option_and_then}
+use Rattle.std.specs.Prelude.{◌≡◌, ℕ, List, [], is_none, Option, Some, None, option_and_then}
 use Rattle.svd_schema.specs.declared.key.Key.{Key}
-use Rattle.svd_schema.specs.Names.{key_name}
 use Rattle.svd_keys.specs.declared.fault.BadKind.{BadKind}
 use Rattle.svd_keys.specs.declared.fault.PlacedFault.{PlacedFault}
 use Rattle.svd_keys.specs.declared.fault.Fault.TheVariants.{BadValue}
-use Rattle.svd_keys.specs.Children.{Tree, child, strays, when}
+use Rattle.svd_keys.specs.Children.{Tree, child, when}
 use Rattle.svd_keys.specs.Earliest.{least}
 use Rattle.svd_keys.specs.Texts.{value_text, value_span}
 
 -- the value of a key in its form
 unfoldable pub value_of : {X : Type 0} → (List ℕ → Option X) → Key → Tree → Option X
-value_of form key tree = option_and_then (λ (found : Tree). form (value_text found.0)) (child (key_name key) tree)
+value_of form key tree = option_and_then (λ (found : Tree). form (value_text found.0)) (child key tree)
 
 -- a value of that kind that isn't in its form
 unfoldable pub bad_value : BadKind → Tree → PlacedFault
@@ -22,11 +21,11 @@ unfoldable pub bad_form : {X : Type 0} → (List ℕ → Option X) → BadKind �
 bad_form form kind None = []
 bad_form form kind (Some found) = when (is_none (form (value_text found.0))) (bad_value kind found)
 
--- every fault of a key
+-- the fault of a key's value
 unfoldable pub key_faults : {X : Type 0} → (List ℕ → Option X) → BadKind → Key → Tree → List PlacedFault
-key_faults form kind key tree = strays (key_name key) tree ++ bad_form form kind (child (key_name key) tree)
+key_faults form kind key tree = bad_form form kind (child key tree)
 
--- a key was read: its value, and the first of its faults
+-- a key was read: its value, and the fault of its value
 pub record IsRead {X : Type 0} (form : List ℕ → Option X) (kind : BadKind) (key : Key) (tree : Tree) (value : Option X) (fault : Option PlacedFault) : Type 0 where
   pub value_is : value ≡ value_of form key tree
   pub fault_is : fault ≡ least (key_faults form kind key tree)

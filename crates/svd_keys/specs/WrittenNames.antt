@@ -5,17 +5,16 @@ use Rattle.pac_base.specs.declared.span.Span.{Span}
 use Rattle.svd_schema.specs.declared.container.Container.{Container}
 use Rattle.svd_schema.specs.declared.container.Container.TheVariants.{Peripheral, Cluster, Register, Field}
 use Rattle.svd_schema.specs.declared.key.Key.TheVariants as key
-use Rattle.svd_schema.specs.Names.{key_name}
 use Rattle.svd_keys.specs.Children.{Tree, child}
 use Rattle.svd_keys.specs.Texts.{value_text, value_span}
 
 -- the name that an element states, as it is written, in its form or not
 unfoldable pub written_name : Tree → Option (List ℕ)
-written_name tree = option_map (λ (found : Tree). value_text found.0) (child (key_name key.Name) tree)
+written_name tree = option_map (λ (found : Tree). value_text found.0) (child key.Name tree)
 
 -- where it is written
 unfoldable pub written_span : Tree → Option Span
-written_span tree = option_map (λ (found : Tree). value_span found.0) (child (key_name key.Name) tree)
+written_span tree = option_map (λ (found : Tree). value_span found.0) (child key.Name tree)
 
 -- a field of this name, in any case of letters, is reserved: it has no rows, and is nobody's sibling
 abbrev pub is_reserved_name : List ℕ → Bool

@@ -1,30 +1,36 @@
-ghost use Rattle.std.specs.Prelude.{◌≡◌, option_map, ◌&&◌, ◌||◌, []};
-ghost use Rattle.svd_keys.specs.Earliest.{least, earlier};
-ghost use Rattle.svd_keys.specs.Children.{child, double, double_of, has_name, strays, unknown, unknown_at, unknown_in, unknown_in_key, unknown_in_keys, when};
-ghost use Rattle.svd_keys.specs.Runs.{within};
+ghost use Rattle.std.specs.Prelude.{◌≡◌, ◌||◌, option_map, Some};
+ghost use Rattle.svd_keys.specs.Children.{double, first, has_role, is_again, misplaced, stray, strays, unknown, unknowns};
+ghost use Rattle.svd_keys.specs.Earliest.{least};
+ghost use Rattle.svd_keys.specs.Roles.{is_role};
+ghost use Rattle.svd_keys.specs.Runs.{stood_in};
 ghost use Rattle.svd_text.specs.Views.{element_of};
 
 use crate::fault::{Fault, PlacedFault, earlier};
+use crate::role::{is_role, is_single, number};
 use crate::text::name_span;
-use svd_schema::{Container, role};
+use svd_schema::Role;
 use svd_text::Element;
 
-/// The first element of that name in an element.
-pub(crate) fn child<'e, 'a>(element: &'e Element<'a>, name: &str) -> Option<&'e Element<'a>>
-    ensures { option_map (λ found. element_of found.now) result ≡ child name.now (element_of element.now) }
+// How many roles there are.
+const ROLES: usize = 35;
+
+/// Whether an element has the role.
+pub fn has_role(element: &Element, role: Role) -> bool
+    ensures { result ≡ has_role role (element_of element.now) }
+{
+    is_role(role, element.role)
+}
+
+/// The first element of that role in an element.
+pub fn first<'e, 'a>(element: &'e Element<'a>, role: Role) -> Option<&'e Element<'a>>
+    ensures { option_map (λ found. element_of found.now) result ≡ first role (element_of element.now) }
 {
     for child in &element.children {
-        if has_name(child, name) {
+        if has_role(child, role) {
             return Some(child);
         }
     }
     None
-}
-
-fn has_name(element: &Element, name: &str) -> bool
-    ensures { result ≡ has_name name.now (element_of element.now) }
-{
-    element.name == name.as_bytes()
 }
 
 // An element that may not stand where it stands.
@@ -51,31 +57,9 @@ fn double(element: &Element) -> PlacedFault
     }
 }
 
-// An element, where it isn't in the container's row.
-#[tactic(auto, unfolding(crate::specs::Children::unknown_at, crate::specs::Earliest::least, crate::specs::Earliest::earlier))]
-fn unknown_at(container: Container, element: &Element) -> Option<PlacedFault>
-    ensures { result ≡ least (unknown_at container (element_of element.now)) }
-{
-    match role(container, element.name) {
-        Some(_) => None,
-        None => Some(unknown(element)),
-    }
-}
-
-/// The first of the elements in a container that may not stand there.
-pub(crate) fn unknown_in(container: Container, element: &Element) -> Option<PlacedFault>
-    ensures { result ≡ least (unknown_in container (element_of element.now)) }
-{
-    let mut fault = None;
-    for child in &element.children {
-        fault = earlier(fault, unknown_at(container, child));
-    }
-    fault
-}
-
 // The first of the elements in a key.
-fn unknown_in_key(element: &Element) -> Option<PlacedFault>
-    ensures { result ≡ least (unknown_in_key (element_of element.now)) }
+fn unknown_in(element: &Element) -> Option<PlacedFault>
+    ensures { result ≡ least (unknowns (element_of element.now)) }
 {
     let mut fault = None;
     for child in &element.children {
@@ -84,64 +68,65 @@ fn unknown_in_key(element: &Element) -> Option<PlacedFault>
     fault
 }
 
-// The first of the elements in a key, where the element is one of that name.
-fn unknown_within(element: &Element, name: &str) -> Option<PlacedFault>
-    ensures { result ≡ least (within name.now (element_of element.now)) }
+// The first of the elements in an element of that role that may not stand there, where it is a key.
+#[tactic(auto, unfolding(crate::specs::Children::misplaced, crate::specs::Earliest::least))]
+fn inside(role: Role, element: &Element) -> Option<PlacedFault>
+    ensures { result ≡ least (misplaced (Some role) (element_of element.now)) }
 {
-    if has_name(element, name) {
-        unknown_in_key(element)
-    } else {
-        None
+    match role {
+        Role::States(_) => unknown_in(element),
+        Role::Holds(_) => None,
+        Role::PassedOver => None,
     }
 }
 
-// The first of the elements in the keys of that name.
-fn unknown_in_keys(element: &Element, name: &str) -> Option<PlacedFault>
-    ensures { result ≡ least (unknown_in_keys name.now (element_of element.now)) }
+// The first that may not stand: the element, or one in it where it is a key.
+fn misplaced(element: &Element) -> Option<PlacedFault>
+    ensures { result ≡ least (misplaced (element_of element.now).0.role (element_of element.now)) }
+{
+    match element.role {
+        None => Some(unknown(element)),
+        Some(role) => inside(role, element),
+    }
+}
+
+// The first fault of an element that stands again or not.
+fn stray(element: &Element, again: bool) -> Option<PlacedFault>
+    ensures { result ≡ least (stray again (element_of element.now)) }
+{
+    let fault = misplaced(element);
+    if again {
+        earlier(Some(double(element)), fault)
+    } else {
+        fault
+    }
+}
+
+// Whether an element of that role may stand once and stood before; from now on it has stood.
+fn stands_again(stood: &mut [bool; ROLES], role: Option<Role>) -> bool
+    ensures again { result ≡ is_again (stood_in stood.old) role }
+    ensures kept { (other : _) → stood_in stood.new other ≡ (stood_in stood.old other || is_role other role) }
+{
+    match role {
+        None => false,
+        Some(role) => {
+            let at = number(role);
+            let again = is_single(role) && stood[at];
+            stood[at] = true;
+            again
+        }
+    }
+}
+
+/// The first of the elements in an element that may not stand there, or stand again, or stand in a key.
+pub fn strays(element: &Element) -> Option<PlacedFault>
+    ensures { result ≡ least (strays (element_of element.now)) }
 {
     let mut fault = None;
+    let mut stood = [false; ROLES];
     for child in &element.children {
-        fault = earlier(fault, unknown_within(child, name));
+        let again = stands_again(&mut stood, child.role);
+        fault = earlier(fault, stray(child, again));
     }
     fault
-}
-
-// An element of a name, where one of it stood before.
-#[tactic(auto, unfolding(crate::specs::Earliest::least, crate::specs::Earliest::earlier))]
-fn again(element: &Element, seen: bool, named: bool) -> Option<PlacedFault>
-    ensures { result ≡ least (when (seen && named) (double (element_of element.now))) }
-{
-    if seen && named {
-        Some(double(element))
-    } else {
-        None
-    }
-}
-
-fn either(one: bool, other: bool) -> bool
-    ensures { result ≡ (one || other) }
-{
-    one || other
-}
-
-/// The first of the elements of that name that stand again in an element.
-pub(crate) fn double_of(element: &Element, name: &str) -> Option<PlacedFault>
-    ensures { result ≡ least (double_of name.now (element_of element.now)) }
-{
-    let mut fault = None;
-    let mut seen = false;
-    for child in &element.children {
-        let named = has_name(child, name);
-        fault = earlier(fault, again(child, seen, named));
-        seen = either(seen, named);
-    }
-    fault
-}
-
-/// The first of the keys of that name that stand again, and of the elements in them.
-#[tactic(auto, unfolding(crate::specs::Children::strays))]
-pub(crate) fn strays(element: &Element, name: &str) -> Option<PlacedFault>
-    ensures { result ≡ least (strays name.now (element_of element.now)) }
-{
-    earlier(double_of(element, name), unknown_in_keys(element, name))
 }

@@ -1,9 +1,9 @@
 ghost use Rattle.std.specs.Prelude.{◌≡◌};
 ghost use Rattle.svd_keys.specs.Earliest.{earlier, earliest};
-ghost use Rattle.svd_keys.specs.Missing.{required_name};
+ghost use Rattle.svd_keys.specs.Missing.{required_name, required_role};
 
 use pac_base::Span;
-use svd_schema::{Container, Key};
+use svd_schema::{Container, Key, Role};
 
 /// The form that a value hasn't.
 #[derive(Clone, Copy, Debug, PartialEq, Eq)]
@@ -37,6 +37,17 @@ impl Required {
         match self {
             Required::Peripherals => Container::Peripherals.name(),
             Required::Stated(key) => key.name(),
+        }
+    }
+
+    /// What the element is in its container.
+    #[tactic(auto, unfolding(crate::specs::Missing::required_role))]
+    pub(crate) fn role(self) -> Role
+        ensures { result ≡ required_role self }
+    {
+        match self {
+            Required::Peripherals => Role::Holds(Container::Peripherals),
+            Required::Stated(key) => Role::States(key),
         }
     }
 }

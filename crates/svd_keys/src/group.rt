@@ -9,7 +9,7 @@ ghost use Rattle.svd_text.specs.Views.{element_of, source_of};
 
 use crate::fault::{BadKind, Fault, PlacedFault, earliest};
 use crate::path::path;
-use crate::read::{Read, access_key, action_key, index_key, kind_key, name_key, number_key};
+use crate::read::{Read, index_key, name_key, read_key};
 use crate::text::span_at;
 use pac_base::{Name, NoMemory, Path};
 use std::alloc::Global;
@@ -38,10 +38,10 @@ pub(crate) fn read_props(element: &Element) -> Read<Props>
     ensures value { result.value ≡ props_of (element_of element.now) }
     ensures fault { result.fault ≡ least (property_faults (element_of element.now)) }
 {
-    let size = number_key(element, Key::Size);
-    let access = access_key(element, Key::Access);
-    let reset = number_key(element, Key::ResetValue);
-    let mask = number_key(element, Key::ResetMask);
+    let size = read_key(element, Key::Size);
+    let access = read_key(element, Key::Access);
+    let reset = read_key(element, Key::ResetValue);
+    let mask = read_key(element, Key::ResetMask);
     Read {
         value: Props {
             size: size.value,
@@ -57,8 +57,8 @@ pub(crate) fn read_props(element: &Element) -> Read<Props>
 pub(crate) fn read_dim(alloc: Global, element: &Element) -> Result<Read<Dim>, NoMemory>
     ensures { IfOk result (λ read. (read.value ≡ dim_of (element_of element.now)) × (read.fault ≡ least (dim_faults (element_of element.now)))) }
 {
-    let count = number_key(element, Key::Dim);
-    let step = number_key(element, Key::DimIncrement);
+    let count = read_key(element, Key::Dim);
+    let step = read_key(element, Key::DimIncrement);
     let index = index_key(alloc, element, Key::DimIndex)?;
     let fault = earliest(&[count.fault, step.fault, index.fault]);
     Ok(Read {
@@ -77,8 +77,8 @@ pub(crate) fn read_effects(element: &Element) -> Read<Effects>
     ensures action { result.value.action ≡ value_of action_of OfReads (element_of element.now) }
     ensures fault { result.fault ≡ least (effect_faults (element_of element.now)) }
 {
-    let kind = kind_key(element, Key::ModifiedWriteValues);
-    let action = action_key(element, Key::ReadAction);
+    let kind = read_key(element, Key::ModifiedWriteValues);
+    let action = read_key(element, Key::ReadAction);
     Read {
         value: Effects {
             kind: kind.value,

@@ -13,11 +13,13 @@ mod missing;
 mod path;
 mod place;
 mod read;
+mod role;
 mod row;
 mod stated;
 mod text;
 mod written;
 
+pub use child::{first, has_role};
 pub use fault::{BadKind, Fault, PlacedFault, Required, earlier};
 pub use keys::{Keys, Stated};
 pub use law::{forms_law, least_law};

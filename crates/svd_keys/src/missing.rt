@@ -6,17 +6,17 @@ ghost use Rattle.svd_keys.specs.Runs.{first_of};
 ghost use Rattle.svd_schema.specs.declared.container.Container.TheVariants.{Field as OfField, Variant as OfVariant};
 ghost use Rattle.svd_text.specs.Views.{element_of};
 
-use crate::child::child;
+use crate::child::first;
 use crate::fault::{Fault, PlacedFault, Required};
-use crate::read::flag_key;
+use crate::read::read_key;
 use crate::text::name_span;
-use svd_schema::{Container, Key};
+use svd_schema::{Container, Key, Role};
 use svd_text::Element;
 
-fn holds(element: &Element, name: &str) -> bool
-    ensures { result ≡ holds name.now (element_of element.now) }
+fn holds(element: &Element, role: Role) -> bool
+    ensures { result ≡ holds role (element_of element.now) }
 {
-    match child(element, name) {
+    match first(element, role) {
         Some(_) => true,
         None => false,
     }
@@ -26,14 +26,14 @@ fn holds(element: &Element, name: &str) -> bool
 pub(crate) fn states(element: &Element, key: Key) -> bool
     ensures { result ≡ states key (element_of element.now) }
 {
-    holds(element, key.name())
+    holds(element, Role::States(key))
 }
 
 // The element that must be there, where it isn't.
 fn lack(element: &Element, wanted: Required) -> Option<Required>
     ensures { result ≡ first_of (lack wanted (element_of element.now)) }
 {
-    if holds(element, wanted.name()) {
+    if holds(element, wanted.role()) {
         None
     } else {
         Some(wanted)
@@ -106,7 +106,7 @@ fn missing_place(element: &Element) -> Option<Required>
 pub(crate) fn is_default(element: &Element) -> bool
     ensures { result ≡ is_default (element_of element.now) }
 {
-    match flag_key(element, Key::IsDefault).value {
+    match read_key(element, Key::IsDefault).value {
         Some(flag) => flag,
         None => false,
     }

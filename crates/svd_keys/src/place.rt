@@ -2,14 +2,13 @@ ghost use Rattle.std.specs.Prelude.{◌≡◌};
 ghost use Rattle.svd_keys.specs.Children.{child, when};
 ghost use Rattle.svd_keys.specs.Earliest.{least};
 ghost use Rattle.svd_keys.specs.Places.{no_place, has_ends, falls, is_zero, bad_place, form_faults, place_faults, place_from, place_with, place_of};
-ghost use Rattle.svd_schema.specs.Names.{key_name};
 ghost use Rattle.svd_text.specs.Views.{element_of};
 
-use crate::child::child;
+use crate::child::first;
 use crate::fault::{BadKind, PlacedFault, earliest};
 use crate::missing::states;
-use crate::read::{Read, bad_where, number_key, range_key};
-use svd_schema::Key;
+use crate::read::{Read, bad_where, read_key};
+use svd_schema::{Key, Role};
 use svd_text::Element;
 use svd_values::Place;
 
@@ -54,9 +53,9 @@ fn is_zero(number: Option<u64>) -> bool
 
 // An element that is bad as a place, where it is there.
 fn bad_place(bad: bool, element: &Element, key: Key) -> Option<PlacedFault>
-    ensures { result ≡ least (bad_place bad (child (key_name key) (element_of element.now))) }
+    ensures { result ≡ least (bad_place bad (child key (element_of element.now))) }
 {
-    match child(element, key.name()) {
+    match first(element, Role::States(key)) {
         None => None,
         Some(found) => bad_where(bad, BadKind::Place, found),
     }
@@ -143,11 +142,11 @@ pub(crate) fn read_place(element: &Element) -> Read<Place>
     ensures value { result.value ≡ place_of (element_of element.now) }
     ensures fault { result.fault ≡ least (place_faults (element_of element.now)) }
 {
-    let range = range_key(element, Key::BitRange);
-    let low = number_key(element, Key::Lsb);
-    let high = number_key(element, Key::Msb);
-    let offset = number_key(element, Key::BitOffset);
-    let width = number_key(element, Key::BitWidth);
+    let range = read_key(element, Key::BitRange);
+    let low = read_key(element, Key::Lsb);
+    let high = read_key(element, Key::Msb);
+    let offset = read_key(element, Key::BitOffset);
+    let width = read_key(element, Key::BitWidth);
     let form = form_fault(element, low.value, high.value, width.value);
     Read {
         value: place_with(

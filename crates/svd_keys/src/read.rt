@@ -1,19 +1,19 @@
-ghost use Rattle.std.specs.Prelude.{◌≡◌, ◌++◌, IfOk, is_none};
-ghost use Rattle.svd_schema.specs.Names.{key_name};
-ghost use Rattle.svd_keys.specs.Children.{strays, when};
+ghost use Rattle.std.specs.Prelude.{◌≡◌, List, ℕ, IfOk, Option};
+ghost use Rattle.svd_keys.specs.Children.{when};
 ghost use Rattle.svd_keys.specs.Earliest.{least};
 ghost use Rattle.svd_keys.specs.Forms.{number_of, bits_of, unit_of, access_of, kind_of, action_of, usage_of, flag_of, range_of, name_of, label_of, index_of};
 ghost use Rattle.svd_keys.specs.Values.{IsRead, bad_value};
+ghost use Rattle.svd_keys.specs.declared.fault.BadKind.{BadKind};
 ghost use Rattle.svd_keys.specs.declared.fault.BadKind.TheVariants.{Number as AsNumber, Word as AsWord, Name as AsName, Place as AsPlace, Index as AsIndex};
 ghost use Rattle.svd_text.specs.Views.{element_of};
 
-use crate::child::{child, strays};
-use crate::fault::{BadKind, Fault, PlacedFault, earlier};
+use crate::child::first;
+use crate::fault::{BadKind, Fault, PlacedFault};
 use crate::form;
 use crate::text::{value_span, value_text};
 use pac_base::{Name, NoMemory, Text};
 use std::alloc::Global;
-use svd_schema::Key;
+use svd_schema::{Key, Role};
 use svd_text::Element;
 use svd_values::{Access, DimIndex, Place, ReadAction, Usage, WriteKind};
 
@@ -47,33 +47,134 @@ pub(crate) fn bad_where(bad: bool, kind: BadKind, found: &Element) -> Option<Pla
     }
 }
 
-// The first fault of a key that stands in an element; `bad` says that its value isn't in its form.
-fn key_fault(
-    element: &Element,
-    key: Key,
-    kind: BadKind,
-    found: &Element,
-    bad: bool,
-) -> Option<PlacedFault>
-    ensures { result ≡ least (strays (key_name key) (element_of element.now) ++ when bad (bad_value kind (element_of found.now))) }
-{
-    earlier(strays(element, key.name()), bad_where(bad, kind, found))
+/// A value that a text gives.
+pub(crate) trait Form: Drop + Sized {
+    // What a text gives, and the form that others haven't.
+    ghost form: { List ℕ → Option Self };
+
+    ghost kind: { BadKind };
+
+    /// What the text gives.
+    fn read(text: &[u8]) -> Option<Self>
+        ensures { result ≡ form text.now };
+
+    /// The form that a text hasn't which gives nothing.
+    fn kind() -> BadKind
+        ensures { result ≡ kind };
 }
 
-/// A key whose value is a whole number.
-pub(crate) fn number_key(element: &Element, key: Key) -> Read<Option<u64>>
-    ensures { IsRead number_of AsNumber key (element_of element.now) result.value result.fault }
+/// A key whose value has that form.
+pub(crate) fn read_key<F: Form>(element: &Element, key: Key) -> Read<Option<F>>
+    ensures { IsRead F.form F.kind key (element_of element.now) result.value result.fault }
 {
-    match child(element, key.name()) {
+    match first(element, Role::States(key)) {
         None => Read {
             value: None,
             fault: None,
         },
         Some(found) => {
-            let value = form::number(value_text(found));
-            let fault = key_fault(element, key, BadKind::Number, found, value.is_none());
+            let value = F::read(value_text(found));
+            let fault = bad_where(value.is_none(), F::kind(), found);
             Read { value, fault }
         }
+    }
+}
+
+impl Form for u64 {
+    ghost form = { number_of };
+
+    ghost kind = { AsNumber };
+
+    fn read(text: &[u8]) -> Option<u64> {
+        form::number(text)
+    }
+
+    fn kind() -> BadKind {
+        BadKind::Number
+    }
+}
+
+impl Form for Access {
+    ghost form = { access_of };
+
+    ghost kind = { AsWord };
+
+    fn read(text: &[u8]) -> Option<Access> {
+        form::access(text)
+    }
+
+    fn kind() -> BadKind {
+        BadKind::Word
+    }
+}
+
+impl Form for WriteKind {
+    ghost form = { kind_of };
+
+    ghost kind = { AsWord };
+
+    fn read(text: &[u8]) -> Option<WriteKind> {
+        form::kind(text)
+    }
+
+    fn kind() -> BadKind {
+        BadKind::Word
+    }
+}
+
+impl Form for ReadAction {
+    ghost form = { action_of };
+
+    ghost kind = { AsWord };
+
+    fn read(text: &[u8]) -> Option<ReadAction> {
+        form::action(text)
+    }
+
+    fn kind() -> BadKind {
+        BadKind::Word
+    }
+}
+
+impl Form for Usage {
+    ghost form = { usage_of };
+
+    ghost kind = { AsWord };
+
+    fn read(text: &[u8]) -> Option<Usage> {
+        form::usage(text)
+    }
+
+    fn kind() -> BadKind {
+        BadKind::Word
+    }
+}
+
+impl Form for bool {
+    ghost form = { flag_of };
+
+    ghost kind = { AsWord };
+
+    fn read(text: &[u8]) -> Option<bool> {
+        form::flag(text)
+    }
+
+    fn kind() -> BadKind {
+        BadKind::Word
+    }
+}
+
+impl Form for Place {
+    ghost form = { range_of };
+
+    ghost kind = { AsPlace };
+
+    fn read(text: &[u8]) -> Option<Place> {
+        form::range(text)
+    }
+
+    fn kind() -> BadKind {
+        BadKind::Place
     }
 }
 
@@ -81,14 +182,14 @@ pub(crate) fn number_key(element: &Element, key: Key) -> Read<Option<u64>>
 pub(crate) fn bits_key(element: &Element, key: Key) -> Read<Option<u64>>
     ensures { IsRead bits_of AsNumber key (element_of element.now) result.value result.fault }
 {
-    match child(element, key.name()) {
+    match first(element, Role::States(key)) {
         None => Read {
             value: None,
             fault: None,
         },
         Some(found) => {
             let value = form::bits(value_text(found));
-            let fault = key_fault(element, key, BadKind::Number, found, value.is_none());
+            let fault = bad_where(value.is_none(), BadKind::Number, found);
             Read { value, fault }
         }
     }
@@ -98,116 +199,14 @@ pub(crate) fn bits_key(element: &Element, key: Key) -> Read<Option<u64>>
 pub(crate) fn unit_key(element: &Element, key: Key) -> Read<Option<u64>>
     ensures { IsRead unit_of AsNumber key (element_of element.now) result.value result.fault }
 {
-    match child(element, key.name()) {
+    match first(element, Role::States(key)) {
         None => Read {
             value: None,
             fault: None,
         },
         Some(found) => {
             let value = form::unit(value_text(found));
-            let fault = key_fault(element, key, BadKind::Number, found, value.is_none());
-            Read { value, fault }
-        }
-    }
-}
-
-/// A key whose value is an access.
-pub(crate) fn access_key(element: &Element, key: Key) -> Read<Option<Access>>
-    ensures { IsRead access_of AsWord key (element_of element.now) result.value result.fault }
-{
-    match child(element, key.name()) {
-        None => Read {
-            value: None,
-            fault: None,
-        },
-        Some(found) => {
-            let value = form::access(value_text(found));
-            let fault = key_fault(element, key, BadKind::Word, found, value.is_none());
-            Read { value, fault }
-        }
-    }
-}
-
-/// A key whose value says what a write does.
-pub(crate) fn kind_key(element: &Element, key: Key) -> Read<Option<WriteKind>>
-    ensures { IsRead kind_of AsWord key (element_of element.now) result.value result.fault }
-{
-    match child(element, key.name()) {
-        None => Read {
-            value: None,
-            fault: None,
-        },
-        Some(found) => {
-            let value = form::kind(value_text(found));
-            let fault = key_fault(element, key, BadKind::Word, found, value.is_none());
-            Read { value, fault }
-        }
-    }
-}
-
-/// A key whose value says what a read does.
-pub(crate) fn action_key(element: &Element, key: Key) -> Read<Option<ReadAction>>
-    ensures { IsRead action_of AsWord key (element_of element.now) result.value result.fault }
-{
-    match child(element, key.name()) {
-        None => Read {
-            value: None,
-            fault: None,
-        },
-        Some(found) => {
-            let value = form::action(value_text(found));
-            let fault = key_fault(element, key, BadKind::Word, found, value.is_none());
-            Read { value, fault }
-        }
-    }
-}
-
-/// A key whose value is a usage.
-pub(crate) fn usage_key(element: &Element, key: Key) -> Read<Option<Usage>>
-    ensures { IsRead usage_of AsWord key (element_of element.now) result.value result.fault }
-{
-    match child(element, key.name()) {
-        None => Read {
-            value: None,
-            fault: None,
-        },
-        Some(found) => {
-            let value = form::usage(value_text(found));
-            let fault = key_fault(element, key, BadKind::Word, found, value.is_none());
-            Read { value, fault }
-        }
-    }
-}
-
-/// A key whose value is true or false.
-pub(crate) fn flag_key(element: &Element, key: Key) -> Read<Option<bool>>
-    ensures { IsRead flag_of AsWord key (element_of element.now) result.value result.fault }
-{
-    match child(element, key.name()) {
-        None => Read {
-            value: None,
-            fault: None,
-        },
-        Some(found) => {
-            let value = form::flag(value_text(found));
-            let fault = key_fault(element, key, BadKind::Word, found, value.is_none());
-            Read { value, fault }
-        }
-    }
-}
-
-/// A key whose value is a range of bits.
-pub(crate) fn range_key(element: &Element, key: Key) -> Read<Option<Place>>
-    ensures { IsRead range_of AsPlace key (element_of element.now) result.value result.fault }
-{
-    match child(element, key.name()) {
-        None => Read {
-            value: None,
-            fault: None,
-        },
-        Some(found) => {
-            let value = form::range(value_text(found));
-            let fault = key_fault(element, key, BadKind::Place, found, value.is_none());
+            let fault = bad_where(value.is_none(), BadKind::Number, found);
             Read { value, fault }
         }
     }
@@ -221,14 +220,14 @@ pub(crate) fn name_key(
 ) -> Result<Read<Option<Name>>, NoMemory>
     ensures { IfOk result (λ read. IsRead name_of AsName key (element_of element.now) read.value read.fault) }
 {
-    match child(element, key.name()) {
+    match first(element, Role::States(key)) {
         None => Ok(Read {
             value: None,
             fault: None,
         }),
         Some(found) => {
             let value = form::name(alloc, value_text(found))?;
-            let fault = key_fault(element, key, BadKind::Name, found, value.is_none());
+            let fault = bad_where(value.is_none(), BadKind::Name, found);
             Ok(Read { value, fault })
         }
     }
@@ -242,14 +241,14 @@ pub(crate) fn label_key(
 ) -> Result<Read<Option<Text>>, NoMemory>
     ensures { IfOk result (λ read. IsRead label_of AsName key (element_of element.now) read.value read.fault) }
 {
-    match child(element, key.name()) {
+    match first(element, Role::States(key)) {
         None => Ok(Read {
             value: None,
             fault: None,
         }),
         Some(found) => {
             let value = form::label(alloc, value_text(found))?;
-            let fault = key_fault(element, key, BadKind::Name, found, value.is_none());
+            let fault = bad_where(value.is_none(), BadKind::Name, found);
             Ok(Read { value, fault })
         }
     }
@@ -263,14 +262,14 @@ pub(crate) fn index_key(
 ) -> Result<Read<Option<DimIndex>>, NoMemory>
     ensures { IfOk result (λ read. IsRead index_of AsIndex key (element_of element.now) read.value read.fault) }
 {
-    match child(element, key.name()) {
+    match first(element, Role::States(key)) {
         None => Ok(Read {
             value: None,
             fault: None,
         }),
         Some(found) => {
             let value = form::index(alloc, value_text(found))?;
-            let fault = key_fault(element, key, BadKind::Index, found, value.is_none());
+            let fault = bad_where(value.is_none(), BadKind::Index, found);
             Ok(Read { value, fault })
         }
     }

@@ -5,19 +5,15 @@ ghost use Rattle.svd_keys.specs.KeysOf.{keys_of, no_keys, no_props};
 ghost use Rattle.svd_keys.specs.OwnFaults.{row_faults};
 ghost use Rattle.svd_text.specs.Views.{element_of};
 
-use crate::child::double_of;
 use crate::fault::earliest;
 use crate::group::{read_effects, read_named, read_props, read_source};
 use crate::keys::{Keys, Stated};
-use crate::missing::is_default;
 use crate::place::{no_place, read_place};
-use crate::read::{
-    access_key, bits_key, flag_key, label_key, name_key, number_key, unit_key, usage_key,
-};
+use crate::read::{bits_key, label_key, name_key, read_key, unit_key};
 use pac_base::NoMemory;
 use std::alloc::Global;
 use svd_model::{Dim, Props};
-use svd_schema::{Container, Key};
+use svd_schema::Key;
 use svd_text::Element;
 
 fn no_props() -> Props
@@ -65,8 +61,7 @@ pub(crate) fn device_keys(alloc: Global, element: &Element) -> Result<Stated, No
     let label = label_key(alloc, element, Key::Name)?;
     let unit = unit_key(element, Key::AddressUnitBits);
     let props = read_props(element);
-    let again = double_of(element, Container::Peripherals.name());
-    let fault = earliest(&[label.fault, unit.fault, props.fault, again]);
+    let fault = earliest(&[label.fault, unit.fault, props.fault]);
     Ok(Stated {
         keys: Keys {
             label: label.value,
@@ -82,10 +77,9 @@ pub(crate) fn peripheral_keys(alloc: Global, element: &Element) -> Result<Stated
     ensures { IfOk result (λ stated. (stated.keys ≡ keys_of OfPeripheral (element_of element.now)) × (stated.fault ≡ least (row_faults OfPeripheral (element_of element.now)))) }
 {
     let named = read_named(alloc, element)?;
-    let base = number_key(element, Key::BaseAddress);
+    let base = read_key(element, Key::BaseAddress);
     let props = read_props(element);
-    let again = double_of(element, Container::Registers.name());
-    let fault = earliest(&[named.fault, base.fault, props.fault, again]);
+    let fault = earliest(&[named.fault, base.fault, props.fault]);
     Ok(Stated {
         keys: Keys {
             name: named.value.name,
@@ -104,7 +98,7 @@ pub(crate) fn cluster_keys(alloc: Global, element: &Element) -> Result<Stated, N
     ensures { IfOk result (λ stated. (stated.keys ≡ keys_of OfCluster (element_of element.now)) × (stated.fault ≡ least (row_faults OfCluster (element_of element.now)))) }
 {
     let named = read_named(alloc, element)?;
-    let offset = number_key(element, Key::AddressOffset);
+    let offset = read_key(element, Key::AddressOffset);
     let alternate = name_key(alloc, element, Key::AlternateCluster)?;
     let props = read_props(element);
     let fault = earliest(&[named.fault, offset.fault, alternate.fault, props.fault]);
@@ -127,12 +121,11 @@ pub(crate) fn register_keys(alloc: Global, element: &Element) -> Result<Stated, 
     ensures { IfOk result (λ stated. (stated.keys ≡ keys_of OfRegister (element_of element.now)) × (stated.fault ≡ least (row_faults OfRegister (element_of element.now)))) }
 {
     let named = read_named(alloc, element)?;
-    let offset = number_key(element, Key::AddressOffset);
+    let offset = read_key(element, Key::AddressOffset);
     let group = name_key(alloc, element, Key::AlternateGroup)?;
     let alternate = name_key(alloc, element, Key::AlternateRegister)?;
     let props = read_props(element);
     let effects = read_effects(element);
-    let again = double_of(element, Container::Fields.name());
     let fault = earliest(&[
         named.fault,
         offset.fault,
@@ -140,7 +133,6 @@ pub(crate) fn register_keys(alloc: Global, element: &Element) -> Result<Stated, 
         alternate.fault,
         props.fault,
         effects.fault,
-        again,
     ]);
     Ok(Stated {
         keys: Keys {
@@ -165,7 +157,7 @@ pub(crate) fn field_keys(alloc: Global, element: &Element) -> Result<Stated, NoM
 {
     let named = read_named(alloc, element)?;
     let place = read_place(element);
-    let access = access_key(element, Key::Access);
+    let access = read_key(element, Key::Access);
     let effects = read_effects(element);
     let fault = earliest(&[named.fault, place.fault, access.fault, effects.fault]);
     Ok(Stated {
@@ -192,7 +184,7 @@ pub(crate) fn set_keys(alloc: Global, element: &Element) -> Result<Stated, NoMem
 {
     let name = name_key(alloc, element, Key::Name)?;
     let derived = read_source(alloc, element)?;
-    let usage = usage_key(element, Key::Usage);
+    let usage = read_key(element, Key::Usage);
     let fault = earliest(&[name.fault, derived.fault, usage.fault]);
     Ok(Stated {
         keys: Keys {
@@ -211,14 +203,13 @@ pub(crate) fn variant_keys(alloc: Global, element: &Element) -> Result<Stated, N
 {
     let label = label_key(alloc, element, Key::Name)?;
     let value = bits_key(element, Key::Value);
-    let flag = flag_key(element, Key::IsDefault);
-    let is_default = is_default(element);
+    let flag = read_key(element, Key::IsDefault);
     let fault = earliest(&[label.fault, value.fault, flag.fault]);
     Ok(Stated {
         keys: Keys {
             label: label.value,
             value: value.value,
-            is_default,
+            is_default: flag.value.unwrap_or(false),
             ..no_keys()
         },
         fault,

@@ -4,7 +4,7 @@ ghost use Rattle.svd_keys.specs.KeysOf.{keys_of, no_keys};
 ghost use Rattle.svd_keys.specs.OwnFaults.{own_faults, row_faults};
 ghost use Rattle.svd_text.specs.Views.{element_of};
 
-use crate::child::unknown_in;
+use crate::child::strays;
 use crate::fault::earliest;
 use crate::keys::{Keys, Stated};
 use crate::missing::missing_fault;
@@ -57,9 +57,9 @@ pub fn read_keys(alloc: Global, container: Container, element: &Element) -> Resu
     ensures { IfOk result (λ stated. (stated.keys ≡ keys_of container (element_of element.now)) × (stated.fault ≡ least (own_faults container (element_of element.now)))) }
 {
     let stated = row_keys(alloc, container, element)?;
-    let unknown = unknown_in(container, element);
+    let strays = strays(element);
     let missing = missing_fault(container, element);
-    let fault = earliest(&[unknown, stated.fault, missing]);
+    let fault = earliest(&[strays, stated.fault, missing]);
     Ok(Stated {
         keys: stated.keys,
         fault,

@@ -2,10 +2,10 @@ ghost use Rattle.std.specs.Prelude.{◌≡◌, option_map, IfSome, Some};
 ghost use Rattle.svd_keys.specs.WrittenNames.{written_name, written_span, is_reserved_name, is_sibling, sibling_name};
 ghost use Rattle.svd_text.specs.Views.{element_of};
 
-use crate::child::child;
+use crate::child::first;
 use crate::text::{value_span, value_text};
 use pac_base::Span;
-use svd_schema::{Container, Key};
+use svd_schema::{Container, Key, Role};
 use svd_text::Element;
 
 /// A name as it is written.
@@ -22,7 +22,7 @@ pub fn written_name<'e, 'a>(element: &'e Element<'a>) -> Option<Written<'e>>
     ensures text { option_map (λ written. written.text.now) result ≡ written_name (element_of element.now) }
     ensures span { option_map (λ written. written.span) result ≡ written_span (element_of element.now) }
 {
-    match child(element, Key::Name.name()) {
+    match first(element, Role::States(Key::Name)) {
         None => None,
         Some(found) => Some(Written {
             text: value_text(found),

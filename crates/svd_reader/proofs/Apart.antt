@@ -4,11 +4,11 @@ use Rattle.std.specs.List.{AllByRecursion}
 use Rattle.indexmap.specs.IndexMap.{insert_entry}
 use Rattle.pac_base.specs.declared.memory.NoMemory.{NoMemory}
 use Rattle.svd_schema.specs.declared.container.Container.TheVariants as container
-use Rattle.svd_schema.specs.Names.{container_name}
 use Rattle.svd_text.specs.declared.element.Element.{Element, out-Element}
 use Rattle.svd_text.specs.Views.{element_of}
+use Rattle.svd_schema.specs.declared.roles.Role.TheVariants.{Holds}
 use Rattle.svd_keys.specs.declared.keys.Keys.{Keys}
-use Rattle.svd_keys.specs.Children.{Tree, has_name, members}
+use Rattle.svd_keys.specs.Children.{Tree, has_role, members}
 use Rattle.svd_keys.specs.KeysOf.{keys_of}
 use Rattle.svd_keys.proofs.Loops.{left}
 use Rattle.svd_model.specs.declared.sibling.Sibling.{Sibling}
@@ -111,11 +111,11 @@ placed-apart kind name place called at tree is is_place apart =
     are e f = rw (f, e) refl
 
 pub register-apart : (tree : Tree) (keys : Keys) (called : List ℕ) (at : ℕ) (trees : List Tree) → keys ≡ keys_of container.Register tree → keys.name ≡ Some called → keys.offset ≡ Some at
-    → trees ≡ members (inside (container_name container.Fields) tree) → IsDistinct same_key (siblings (register_at tree)) → IsDistinct same_key (siblings (flat_map field_at trees))
+    → trees ≡ members (inside container.Fields tree) → IsDistinct same_key (siblings (register_at tree)) → IsDistinct same_key (siblings (flat_map field_at trees))
 unfolding register_at fields_in
 register-apart tree keys called at trees is said place all apart =
     same-apart _ _ (ap (flat_map field_at) all)
-    (placed-apart register (keys_of container.Register tree).name (keys_of container.Register tree).offset called at (record { keys = stated (places_of (keys_of container.Register tree)); below = siblings (flat_map field_at (members (inside (container_name container.Fields) tree))) })
+    (placed-apart register (keys_of container.Register tree).name (keys_of container.Register tree).offset called at (record { keys = stated (places_of (keys_of container.Register tree)); below = siblings (flat_map field_at (members (inside container.Fields tree))) })
     (sym (ap (λ (k : Keys). k.name) is) ∙ said) (sym (ap (λ (k : Keys). k.offset) is) ∙ place) apart)
 
 pub cluster-apart : (e : Element) (keys : Keys) (called : List ℕ) (at : ℕ) (items : List Element) → keys ≡ keys_of container.Cluster (element_of e) → keys.name ≡ Some called → keys.offset ≡ Some at
@@ -126,14 +126,14 @@ cluster-apart e keys called at items is said place children apart =
     (placed-apart cluster (keys_of container.Cluster (element_of e)).name (keys_of container.Cluster (element_of e)).offset called at (record { keys = stated (places_of (keys_of container.Cluster (element_of e))); below = siblings (children_in (element_of e).1) })
     (sym (ap (λ (k : Keys). k.name) is) ∙ said) (sym (ap (λ (k : Keys). k.offset) is) ∙ place) apart)
 
-pub peripheral-apart : (tree : Tree) (keys : Keys) (called : List ℕ) (at : ℕ) (trees : List Tree) → has_name (container_name container.Peripheral) tree ≡ true → keys ≡ keys_of container.Peripheral tree → keys.name ≡ Some called → keys.base ≡ Some at
-    → trees ≡ members (inside (container_name container.Registers) tree) → IsDistinct same_key (siblings (peripheral_at tree)) → IsDistinct same_key (siblings (flat_map child_of trees))
+pub peripheral-apart : (tree : Tree) (keys : Keys) (called : List ℕ) (at : ℕ) (trees : List Tree) → has_role (Holds container.Peripheral) tree ≡ true → keys ≡ keys_of container.Peripheral tree → keys.name ≡ Some called → keys.base ≡ Some at
+    → trees ≡ members (inside container.Registers tree) → IsDistinct same_key (siblings (peripheral_at tree)) → IsDistinct same_key (siblings (flat_map child_of trees))
 unfolding peripheral_at
 peripheral-apart tree keys called at trees named is said place all apart =
-    same-apart _ _ (ap (flat_map child_of) all ∙ sym (children-members (inside (container_name container.Registers) tree)))
-    (placed-apart peripheral (keys_of container.Peripheral tree).name (keys_of container.Peripheral tree).base called at (record { keys = stated (places_of (keys_of container.Peripheral tree)); below = siblings (children_in (inside (container_name container.Registers) tree)) })
+    same-apart _ _ (ap (flat_map child_of) all ∙ sym (children-members (inside container.Registers tree)))
+    (placed-apart peripheral (keys_of container.Peripheral tree).name (keys_of container.Peripheral tree).base called at (record { keys = stated (places_of (keys_of container.Peripheral tree)); below = siblings (children_in (inside container.Registers tree)) })
     (sym (ap (λ (k : Keys). k.name) is) ∙ said) (sym (ap (λ (k : Keys). k.base) is) ∙ place) (rw named at apart))
 
-pub device-apart : (tree : Tree) (trees : List Tree) → trees ≡ members (inside (container_name container.Peripherals) tree) → IsDistinct same_key (described_tree tree).below → IsDistinct same_key (siblings (flat_map peripheral_at trees))
+pub device-apart : (tree : Tree) (trees : List Tree) → trees ≡ members (inside container.Peripherals tree) → IsDistinct same_key (described_tree tree).below → IsDistinct same_key (siblings (flat_map peripheral_at trees))
 unfolding described_tree peripherals_in
 device-apart tree trees all apart = same-apart _ _ (ap (flat_map peripheral_at) all) apart

@@ -8,8 +8,6 @@ use Rattle.svd_schema.specs.declared.container.Container.TheVariants.{Device, Pe
 use Rattle.svd_schema.specs.declared.key.Key.TheVariants as key
 use Rattle.svd_schema.specs.declared.roles.Role.{Role}
 use Rattle.svd_schema.specs.declared.roles.Role.TheVariants.{Holds}
-use Rattle.svd_schema.specs.Names.{key_name, container_name}
-use Rattle.svd_schema.specs.Table.{row_of, role_of}
 use Rattle.svd_text.specs.Tree.{Elements, none, element}
 use Rattle.svd_model.specs.Facts.{IsElement, IsPlacedOrDerived, HasForm, IsValueName}
 use Rattle.svd_model.specs.Keys.{Key}
@@ -19,7 +17,7 @@ use Rattle.svd_rows.specs.Elements.{IsDistinct, Every}
 use Rattle.svd_rows.specs.Forest.{Forest, leaf, siblings}
 use Rattle.svd_rows.specs.Ranks.{stated}
 use Rattle.svd_rows.proofs.Siblings.{Every-siblings, IsDistinct-siblings}
-use Rattle.svd_keys.specs.Children.{Tree, members, has_name, child}
+use Rattle.svd_keys.specs.Children.{Tree, members, has_role, child}
 use Rattle.svd_keys.specs.Forms.{is_name, name_of, is_printable, is_label, label_of}
 use Rattle.svd_keys.specs.KeysOf.{keys_of}
 use Rattle.svd_keys.specs.Texts.{value_text}
@@ -29,8 +27,9 @@ use Rattle.svd_reader.specs.DescribedTree.{RowTree, places_of, with_keys, inside
 use Rattle.svd_reader.specs.DoubleNames.{name_by, name_in, double_names}
 use Rattle.svd_reader.specs.Faults.{faults_by, faults_in, faults_of}
 use Rattle.svd_reader.specs.TreeFacts.{HasFacts}
+use Rattle.svd_keys.proofs.RoleNumbers.{role_is}
 use Rattle.svd_reader.proofs.FieldPlaces.{field_placed}
-use Rattle.svd_reader.proofs.NoFaults.{first_none, rest_none, all_append, IsFaultless, by_role, each_faultless, own_none, doubles_none, inner_none, named_role, inside_faultless}
+use Rattle.svd_reader.proofs.NoFaults.{first_none, rest_none, all_append, IsFaultless, by_role, each_faultless, own_none, doubles_none, inner_none, inside_faultless}
 use Rattle.svd_reader.proofs.SiblingNames.{IsListed, listed_distinct, numbered_distinct, numbered_every}
 use Rattle.svd_reader.proofs.StatedForms.{Each, each_value, keys_in_form, keys_bounded, keys_indexed}
 
@@ -86,16 +85,16 @@ name_said text name false e = cc
 -- a name in its form is the one that is written
 written_is : (tree : Tree) (name : List ℕ) → value_of name_of key.Name tree ≡ Some name → written_name tree ≡ Some name
 unfolding value_of name_of written_name
-written_is tree name is = cases (child (key_name key.Name) tree) is
+written_is tree name is = cases (child key.Name tree) is
   where
     cases : (found : Option Tree) → option_and_then (λ (other : Tree). if is_name (value_text other.0) then Some (value_text other.0) else None) found ≡ Some name → option_map (λ (other : Tree). value_text other.0) found ≡ Some name
     cases None e = cc
     cases (Some found) e = ap Some (name_said (value_text found.0) name (is_name (value_text found.0)) e)
 
 -- the name in a container, by what the element is there
-named_by : (container inner : Container) (tree : Tree) (name : Option (List ℕ)) → role_of container tree.0.name ≡ Some (Holds inner) → sibling_name inner tree ≡ name → name_in container tree ≡ name
+named_by : (inner : Container) (tree : Tree) (name : Option (List ℕ)) → tree.0.role ≡ Some (Holds inner) → sibling_name inner tree ≡ name → name_in tree ≡ name
 unfolding name_in
-named_by container inner tree name role is = ap (λ (what : Option Role). name_by what tree) role ∙ is
+named_by inner tree name role is = ap (λ (what : Option Role). name_by what tree) role ∙ is
 
 sibling_named : (inner : Container) (tree : Tree) (name : List ℕ) → written_name tree ≡ Some name → is_sibling inner name ≡ true → sibling_name inner tree ≡ Some name
 unfolding sibling_name kept
@@ -106,11 +105,11 @@ unfolding sibling_name kept is_sibling
 unreserved_named tree name written other = rw written (rw other refl)
 
 -- an element that is listed by its name and its place is listed under its name
-placed_listed : (container : Container) (tree : Tree) (kind : Kind) (name : Option (List ℕ)) (place : Option ℕ) (rows : RowTree) → ((said : List ℕ) → name ≡ Some said → name_in container tree ≡ Some said) → ((said : List ℕ) → name ≡ Some said → written_name tree ≡ Some said)
-    → IsListed container tree (placed kind name place rows)
-placed_listed container tree kind name None rows named written = tt
-placed_listed container tree kind None (Some place) rows named written = tt
-placed_listed container tree kind (Some name) (Some place) rows named written = record { named = named name refl; written = written name refl; number = refl }
+placed_listed : (tree : Tree) (kind : Kind) (name : Option (List ℕ)) (place : Option ℕ) (rows : RowTree) → ((said : List ℕ) → name ≡ Some said → name_in tree ≡ Some said) → ((said : List ℕ) → name ≡ Some said → written_name tree ≡ Some said)
+    → IsListed tree (placed kind name place rows)
+placed_listed tree kind name None rows named written = tt
+placed_listed tree kind None (Some place) rows named written = tt
+placed_listed tree kind (Some name) (Some place) rows named written = record { named = named name refl; written = written name refl; number = refl }
 
 placed_good : (kind : Kind) (name : Option (List ℕ)) (place : Option ℕ) (rows : RowTree) → ((said : List ℕ) → IsGood (record { kind = kind; name = said; number = 0 }, rows)) → AllByRecursion IsGood (placed kind name place rows)
 placed_good kind name None rows good = tt
@@ -152,7 +151,7 @@ variant_label tree = each_value IsValueName label_of label_in_form key.Name tree
 
 value_good : (tree : Tree) → AllByRecursion (IsNumberedGood value) (value_at tree)
 unfolding value_at
-value_good tree = cases (has_name (container_name Variant) tree)
+value_good tree = cases (has_role (Holds Variant) tree)
   where
     named : (label : Option (List ℕ)) → Each IsValueName label → AllByRecursion (IsNumberedGood value) (labelled label (with_keys (keys_of Variant tree) leaf))
     named None each = tt
@@ -168,7 +167,7 @@ values_good tree = numbered_good value (flat_map value_at (members tree.1)) (all
 
 set_good : (tree : Tree) → AllByRecursion (IsNumberedGood set) (set_at tree)
 unfolding set_at
-set_good tree = cases (has_name (container_name ValueSet) tree)
+set_good tree = cases (has_role (Holds ValueSet) tree)
   where
     cases : (is : Bool) → AllByRecursion (IsNumberedGood set) (if is then (unwrap_or (keys_of ValueSet tree).name [], with_keys (keys_of ValueSet tree) (values_in tree)) ∷ [] else [])
     cases true = (record { here = λ number. element_with (record { kind = set; name = unwrap_or (keys_of ValueSet tree).name []; number = number }) ValueSet tree tt; below = values_good tree }, tt)
@@ -180,21 +179,17 @@ sets_good tree = numbered_good set (flat_map set_at (members tree.1)) (all_made 
 
 -- ---- fields
 
--- an element of a container's name is faultless as one
-as_named : (container inner : Container) (tree : Tree) → role_of container (container_name inner) ≡ Some (Holds inner) → IsFaultless (role_of container tree.0.name) tree → has_name (container_name inner) tree ≡ true → faults_of inner tree ≡ []
-as_named container inner tree role is named = subst (λ what. IsFaultless what tree) (named_role container (container_name inner) tree (Some (Holds inner)) role named) is
-
-field_role : role_of Fields (container_name Field) ≡ Some (Holds Field)
-unfolding row_of container_name
-field_role = refl
+-- an element that is a container is faultless as one
+as_held : (inner : Container) (tree : Tree) → IsFaultless tree.0.role tree → has_role (Holds inner) tree ≡ true → faults_of inner tree ≡ []
+as_held inner tree is named = subst (λ what. IsFaultless what tree) (role_is (Holds inner) tree named) is
 
 field_name : (tree : Tree) (name : List ℕ) → (keys_of Field tree).name ≡ Some name → written_name tree ≡ Some name
 unfolding keys_of
 field_name tree name is = written_is tree name is
 
-field_good : (tree : Tree) → IsFaultless (role_of Fields tree.0.name) tree → AllByRecursion IsGood (field_at tree)
+field_good : (tree : Tree) → IsFaultless tree.0.role tree → AllByRecursion IsGood (field_at tree)
 unfolding field_at
-field_good tree is = cases (has_name (container_name Field) tree) refl
+field_good tree is = cases (has_role (Holds Field) tree) refl
   where
     good : faults_of Field tree ≡ [] → (name : Option (List ℕ)) → AllByRecursion IsGood (unreserved name (with_keys (keys_of Field tree) (sets_in tree)))
     good faults None = tt
@@ -204,45 +199,41 @@ field_good tree is = cases (has_name (container_name Field) tree) refl
         kept true = tt
         kept false = (good_with (record { kind = field; name = name; number = 0 }) Field tree (sets_in tree) (refl, field_placed tree (own_none Field tree faults)) (sets_good tree), tt)
 
-    cases : (named : Bool) → has_name (container_name Field) tree ≡ named → AllByRecursion IsGood (if named then unreserved (keys_of Field tree).name (with_keys (keys_of Field tree) (sets_in tree)) else [])
-    cases true named = good (as_named Fields Field tree field_role is named) (keys_of Field tree).name
+    cases : (named : Bool) → has_role (Holds Field) tree ≡ named → AllByRecursion IsGood (if named then unreserved (keys_of Field tree).name (with_keys (keys_of Field tree) (sets_in tree)) else [])
+    cases true named = good (as_held Field tree is named) (keys_of Field tree).name
     cases false named = tt
 
-field_listed : (tree : Tree) → IsListed Fields tree (field_at tree)
+field_listed : (tree : Tree) → IsListed tree (field_at tree)
 unfolding field_at
-field_listed tree = cases (has_name (container_name Field) tree) refl
+field_listed tree = cases (has_role (Holds Field) tree) refl
   where
     rows : RowTree
     rows = with_keys (keys_of Field tree) (sets_in tree)
 
-    listed : (name : Option (List ℕ)) → has_name (container_name Field) tree ≡ true → ((said : List ℕ) → name ≡ Some said → written_name tree ≡ Some said) → IsListed Fields tree (unreserved name rows)
+    listed : (name : Option (List ℕ)) → has_role (Holds Field) tree ≡ true → ((said : List ℕ) → name ≡ Some said → written_name tree ≡ Some said) → IsListed tree (unreserved name rows)
     listed None named written = tt
     listed (Some name) named written = kept (is_reserved_name name) refl
       where
-        kept : (reserved : Bool) → is_reserved_name name ≡ reserved → IsListed Fields tree (if reserved then [] else under_name field (Some name) rows)
+        kept : (reserved : Bool) → is_reserved_name name ≡ reserved → IsListed tree (if reserved then [] else under_name field (Some name) rows)
         kept true is = tt
         kept false is = record {
-          named = named_by Fields Field tree (Some name) (named_role Fields (container_name Field) tree (Some (Holds Field)) field_role named) (unreserved_named tree name (written name refl) is);
+          named = named_by Field tree (Some name) (role_is (Holds Field) tree named) (unreserved_named tree name (written name refl) is);
           written = written name refl;
           number = refl;
         }
 
-    cases : (named : Bool) → has_name (container_name Field) tree ≡ named → IsListed Fields tree (if named then unreserved (keys_of Field tree).name rows else [])
+    cases : (named : Bool) → has_role (Holds Field) tree ≡ named → IsListed tree (if named then unreserved (keys_of Field tree).name rows else [])
     cases true named = listed (keys_of Field tree).name named (field_name tree)
     cases false named = tt
-
-fields_role : role_of Register (container_name Fields) ≡ Some (Holds Fields)
-unfolding row_of container_name
-fields_role = refl
 
 fields_good : (tree : Tree) → faults_of Register tree ≡ [] → IsGoodForest (siblings (fields_in tree))
 unfolding fields_in
 fields_good tree faults =
-    let within = inside_faultless Register Fields (container_name Fields) tree fields_role (inner_none Register tree faults) in
-    let trees = members (inside (container_name Fields) tree) in
+    let within = inside_faultless Fields tree (inner_none Register tree faults) in
+    let trees = members (inside Fields tree) in
     good_siblings (flat_map field_at trees)
-    (all_made (λ (other : Tree). IsFaultless (role_of Fields other.0.name) other) IsGood field_at field_good trees (each_faultless Fields (inside (container_name Fields) tree) within.inner))
-    (listed_distinct Fields field_at field_listed trees within.doubles)
+    (all_made (λ (other : Tree). IsFaultless other.0.role other) IsGood field_at field_good trees (each_faultless (inside Fields tree) within.inner))
+    (listed_distinct field_at field_listed trees within.doubles)
 
 -- ---- registers and clusters
 
@@ -258,26 +249,13 @@ cluster_good tree children below =
     placed_good cluster (keys_of Cluster tree).name (keys_of Cluster tree).offset (with_keys (keys_of Cluster tree) (siblings children))
     (λ said. good_with (record { kind = cluster; name = said; number = 0 }) Cluster tree (siblings children) refl below)
 
--- a container in which registers and clusters stand
-record IsParent (container : Container) : Type 0 where
-  clusters : role_of container (container_name Cluster) ≡ Some (Holds Cluster)
-  registers : role_of container (container_name Register) ≡ Some (Holds Register)
-
-cluster_parent : IsParent Cluster
-unfolding row_of container_name
-cluster_parent = record { clusters = refl; registers = refl }
-
-registers_parent : IsParent Registers
-unfolding row_of container_name
-registers_parent = record { clusters = refl; registers = refl }
-
-child_good : (container : Container) → IsParent container → (tree : Tree) (children : List (Step × RowTree)) → IsFaultless (role_of container tree.0.name) tree → (faults_of Cluster tree ≡ [] → IsGoodForest (siblings children)) → AllByRecursion IsGood (child_at tree children)
+child_good : (tree : Tree) (children : List (Step × RowTree)) → IsFaultless tree.0.role tree → (faults_of Cluster tree ≡ [] → IsGoodForest (siblings children)) → AllByRecursion IsGood (child_at tree children)
 unfolding child_at
-child_good container parent tree children is below = cases (has_name (container_name Cluster) tree) (has_name (container_name Register) tree) refl refl
+child_good tree children is below = cases (has_role (Holds Cluster) tree) (has_role (Holds Register) tree) refl refl
   where
-    cases : (grouped single : Bool) → has_name (container_name Cluster) tree ≡ grouped → has_name (container_name Register) tree ≡ single → AllByRecursion IsGood (if grouped then cluster_at tree children else (if single then register_at tree else []))
-    cases true single grouped named = cluster_good tree children (below (as_named container Cluster tree parent.clusters is grouped))
-    cases false true grouped named = register_good tree (as_named container Register tree parent.registers is named)
+    cases : (grouped single : Bool) → has_role (Holds Cluster) tree ≡ grouped → has_role (Holds Register) tree ≡ single → AllByRecursion IsGood (if grouped then cluster_at tree children else (if single then register_at tree else []))
+    cases true single grouped named = cluster_good tree children (below (as_held Cluster tree is grouped))
+    cases false true grouped named = register_good tree (as_held Register tree is named)
     cases false false grouped named = tt
 
 cluster_name : (tree : Tree) (name : List ℕ) → (keys_of Cluster tree).name ≡ Some name → written_name tree ≡ Some name
@@ -288,17 +266,17 @@ register_name : (tree : Tree) (name : List ℕ) → (keys_of Register tree).name
 unfolding keys_of
 register_name tree name is = written_is tree name is
 
-child_listed : (container : Container) → IsParent container → (tree : Tree) (children : List (Step × RowTree)) → IsListed container tree (child_at tree children)
+child_listed : (tree : Tree) (children : List (Step × RowTree)) → IsListed tree (child_at tree children)
 unfolding child_at cluster_at register_at is_sibling
-child_listed container parent tree children = cases (has_name (container_name Cluster) tree) (has_name (container_name Register) tree) refl refl
+child_listed tree children = cases (has_role (Holds Cluster) tree) (has_role (Holds Register) tree) refl refl
   where
-    cases : (grouped single : Bool) → has_name (container_name Cluster) tree ≡ grouped → has_name (container_name Register) tree ≡ single → IsListed container tree (if grouped then cluster_at tree children else (if single then register_at tree else []))
+    cases : (grouped single : Bool) → has_role (Holds Cluster) tree ≡ grouped → has_role (Holds Register) tree ≡ single → IsListed tree (if grouped then cluster_at tree children else (if single then register_at tree else []))
     cases true single grouped named =
-        placed_listed container tree cluster (keys_of Cluster tree).name (keys_of Cluster tree).offset (with_keys (keys_of Cluster tree) (siblings children))
-        (λ said is. named_by container Cluster tree (Some said) (named_role container (container_name Cluster) tree (Some (Holds Cluster)) parent.clusters grouped) (sibling_named Cluster tree said (cluster_name tree said is) refl)) (cluster_name tree)
+        placed_listed tree cluster (keys_of Cluster tree).name (keys_of Cluster tree).offset (with_keys (keys_of Cluster tree) (siblings children))
+        (λ said is. named_by Cluster tree (Some said) (role_is (Holds Cluster) tree grouped) (sibling_named Cluster tree said (cluster_name tree said is) refl)) (cluster_name tree)
     cases false true grouped named =
-        placed_listed container tree register (keys_of Register tree).name (keys_of Register tree).offset (with_keys (keys_of Register tree) (siblings (fields_in tree)))
-        (λ said is. named_by container Register tree (Some said) (named_role container (container_name Register) tree (Some (Holds Register)) parent.registers named) (sibling_named Register tree said (register_name tree said is) refl)) (register_name tree)
+        placed_listed tree register (keys_of Register tree).name (keys_of Register tree).offset (with_keys (keys_of Register tree) (siblings (fields_in tree)))
+        (λ said is. named_by Register tree (Some said) (role_is (Holds Register) tree named) (sibling_named Register tree said (register_name tree said is) refl)) (register_name tree)
     cases false false grouped named = tt
 
 -- a register, or a cluster with its children
@@ -310,43 +288,31 @@ unfolding children_in members
 children_are none = refl
 children_are (element head children siblings) = ap (λ others. child_at (head, children) (children_in children) ++ others) (children_are siblings)
 
-children_distinct : (container : Container) → IsParent container → (elements : Elements) → double_names container (members elements) ≡ [] → AreDistinct same_key (map (λ entry. entry.0) (children_in elements))
-children_distinct container parent elements doubles =
+children_distinct : (elements : Elements) → double_names (members elements) ≡ [] → AreDistinct same_key (map (λ entry. entry.0) (children_in elements))
+children_distinct elements doubles =
     subst (λ (entries : List (Step × RowTree)). AreDistinct same_key (map (λ entry. entry.0) entries)) (sym (children_are elements))
-    (listed_distinct container whole_child (λ tree. child_listed container parent tree (children_in tree.1)) (members elements) doubles)
+    (listed_distinct whole_child (λ tree. child_listed tree (children_in tree.1)) (members elements) doubles)
 
-cluster_below : (tree : Tree) → (faults_in Cluster tree.1 ≡ [] → AllByRecursion IsGood (children_in tree.1)) → faults_of Cluster tree ≡ [] → IsGoodForest (siblings (children_in tree.1))
-cluster_below tree good faults = good_siblings (children_in tree.1) (good (inner_none Cluster tree faults)) (children_distinct Cluster cluster_parent tree.1 (doubles_none Cluster tree faults))
+cluster_below : (tree : Tree) → (faults_in tree.1 ≡ [] → AllByRecursion IsGood (children_in tree.1)) → faults_of Cluster tree ≡ [] → IsGoodForest (siblings (children_in tree.1))
+cluster_below tree good faults = good_siblings (children_in tree.1) (good (inner_none Cluster tree faults)) (children_distinct tree.1 (doubles_none Cluster tree faults))
 
-children_good : (container : Container) → IsParent container → (elements : Elements) → faults_in container elements ≡ [] → AllByRecursion IsGood (children_in elements)
+children_good : (elements : Elements) → faults_in elements ≡ [] → AllByRecursion IsGood (children_in elements)
 unfolding children_in faults_in
-children_good container parent none is = tt
-children_good container parent (element head children siblings) is =
-    let here = faults_by (role_of container head.name) (head, children) (λ inner. faults_in inner children) in
+children_good none is = tt
+children_good (element head children siblings) is =
+    let here = faults_by head.role (head, children) (λ inner. faults_in children) in
     all_append IsGood (child_at (head, children) (children_in children)) (children_in siblings)
-    (child_good container parent (head, children) (children_in children) (by_role (role_of container head.name) (head, children) (first_none here (faults_in container siblings) is))
-    (cluster_below (head, children) (children_good Cluster cluster_parent children)))
-    (children_good container parent siblings (rest_none here (faults_in container siblings) is))
+    (child_good (head, children) (children_in children) (by_role head.role (head, children) (first_none here (faults_in siblings) is))
+    (cluster_below (head, children) (children_good children)))
+    (children_good siblings (rest_none here (faults_in siblings) is))
 
 -- ---- peripherals
 
-registers_role : role_of Peripheral (container_name Registers) ≡ Some (Holds Registers)
-unfolding row_of container_name
-registers_role = refl
-
-peripheral_role : role_of Peripherals (container_name Peripheral) ≡ Some (Holds Peripheral)
-unfolding row_of container_name
-peripheral_role = refl
-
-peripherals_role : role_of Device (container_name Peripherals) ≡ Some (Holds Peripherals)
-unfolding row_of container_name
-peripherals_role = refl
-
-registers_good : (tree : Tree) → faults_of Peripheral tree ≡ [] → IsGoodForest (siblings (children_in (inside (container_name Registers) tree)))
+registers_good : (tree : Tree) → faults_of Peripheral tree ≡ [] → IsGoodForest (siblings (children_in (inside Registers tree)))
 registers_good tree faults =
-    let within = inside_faultless Peripheral Registers (container_name Registers) tree registers_role (inner_none Peripheral tree faults) in
-    good_siblings (children_in (inside (container_name Registers) tree)) (children_good Registers registers_parent (inside (container_name Registers) tree) within.inner)
-    (children_distinct Registers registers_parent (inside (container_name Registers) tree) within.doubles)
+    let within = inside_faultless Registers tree (inner_none Peripheral tree faults) in
+    good_siblings (children_in (inside Registers tree)) (children_good (inside Registers tree) within.inner)
+    (children_distinct (inside Registers tree) within.doubles)
 
 peripheral_name : (tree : Tree) (name : List ℕ) → (keys_of Peripheral tree).name ≡ Some name → written_name tree ≡ Some name
 unfolding keys_of
@@ -354,36 +320,36 @@ peripheral_name tree name is = written_is tree name is
 
 -- a peripheral's keys, with the registers and clusters in it
 abbrev peripheral_rows : Tree → RowTree
-peripheral_rows tree = with_keys (keys_of Peripheral tree) (siblings (children_in (inside (container_name Registers) tree)))
+peripheral_rows tree = with_keys (keys_of Peripheral tree) (siblings (children_in (inside Registers tree)))
 
-peripheral_good : (tree : Tree) → IsFaultless (role_of Peripherals tree.0.name) tree → AllByRecursion IsGood (peripheral_at tree)
+peripheral_good : (tree : Tree) → IsFaultless tree.0.role tree → AllByRecursion IsGood (peripheral_at tree)
 unfolding peripheral_at
-peripheral_good tree is = cases (has_name (container_name Peripheral) tree) refl
+peripheral_good tree is = cases (has_role (Holds Peripheral) tree) refl
   where
-    cases : (named : Bool) → has_name (container_name Peripheral) tree ≡ named → AllByRecursion IsGood (if named then placed peripheral (keys_of Peripheral tree).name (keys_of Peripheral tree).base (peripheral_rows tree) else [])
+    cases : (named : Bool) → has_role (Holds Peripheral) tree ≡ named → AllByRecursion IsGood (if named then placed peripheral (keys_of Peripheral tree).name (keys_of Peripheral tree).base (peripheral_rows tree) else [])
     cases true named =
         placed_good peripheral (keys_of Peripheral tree).name (keys_of Peripheral tree).base (peripheral_rows tree)
-        (λ said. good_with (record { kind = peripheral; name = said; number = 0 }) Peripheral tree (siblings (children_in (inside (container_name Registers) tree))) refl (registers_good tree (as_named Peripherals Peripheral tree peripheral_role is named)))
+        (λ said. good_with (record { kind = peripheral; name = said; number = 0 }) Peripheral tree (siblings (children_in (inside Registers tree))) refl (registers_good tree (as_held Peripheral tree is named)))
     cases false named = tt
 
-peripheral_listed : (tree : Tree) → IsListed Peripherals tree (peripheral_at tree)
+peripheral_listed : (tree : Tree) → IsListed tree (peripheral_at tree)
 unfolding peripheral_at is_sibling
-peripheral_listed tree = cases (has_name (container_name Peripheral) tree) refl
+peripheral_listed tree = cases (has_role (Holds Peripheral) tree) refl
   where
-    cases : (named : Bool) → has_name (container_name Peripheral) tree ≡ named → IsListed Peripherals tree (if named then placed peripheral (keys_of Peripheral tree).name (keys_of Peripheral tree).base (peripheral_rows tree) else [])
+    cases : (named : Bool) → has_role (Holds Peripheral) tree ≡ named → IsListed tree (if named then placed peripheral (keys_of Peripheral tree).name (keys_of Peripheral tree).base (peripheral_rows tree) else [])
     cases true named =
-        placed_listed Peripherals tree peripheral (keys_of Peripheral tree).name (keys_of Peripheral tree).base (peripheral_rows tree)
-        (λ said is. named_by Peripherals Peripheral tree (Some said) (named_role Peripherals (container_name Peripheral) tree (Some (Holds Peripheral)) peripheral_role named) (sibling_named Peripheral tree said (peripheral_name tree said is) refl)) (peripheral_name tree)
+        placed_listed tree peripheral (keys_of Peripheral tree).name (keys_of Peripheral tree).base (peripheral_rows tree)
+        (λ said is. named_by Peripheral tree (Some said) (role_is (Holds Peripheral) tree named) (sibling_named Peripheral tree said (peripheral_name tree said is) refl)) (peripheral_name tree)
     cases false named = tt
 
 peripherals_good : (tree : Tree) → faults_of Device tree ≡ [] → IsGoodForest (siblings (peripherals_in tree))
 unfolding peripherals_in
 peripherals_good tree faults =
-    let within = inside_faultless Device Peripherals (container_name Peripherals) tree peripherals_role (inner_none Device tree faults) in
-    let trees = members (inside (container_name Peripherals) tree) in
+    let within = inside_faultless Peripherals tree (inner_none Device tree faults) in
+    let trees = members (inside Peripherals tree) in
     good_siblings (flat_map peripheral_at trees)
-    (all_made (λ (other : Tree). IsFaultless (role_of Peripherals other.0.name) other) IsGood peripheral_at peripheral_good trees (each_faultless Peripherals (inside (container_name Peripherals) tree) within.inner))
-    (listed_distinct Peripherals peripheral_at peripheral_listed trees within.doubles)
+    (all_made (λ (other : Tree). IsFaultless other.0.role other) IsGood peripheral_at peripheral_good trees (each_faultless (inside Peripherals tree) within.inner))
+    (listed_distinct peripheral_at peripheral_listed trees within.doubles)
 
 -- ---- the whole
 

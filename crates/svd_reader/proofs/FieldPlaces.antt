@@ -8,7 +8,6 @@ use Rattle.pac_base.specs.declared.path.Step.{Step}
 use Rattle.svd_schema.specs.declared.container.Container.TheVariants.{Field}
 use Rattle.svd_schema.specs.declared.key.Key.{Key as KeyName}
 use Rattle.svd_schema.specs.declared.key.Key.TheVariants as key
-use Rattle.svd_schema.specs.Names.{key_name}
 use Rattle.svd_values.specs.declared.place.Place.{Place}
 use Rattle.svd_model.specs.Facts.{IsPlacedOrDerived, is_offset, is_derived}
 use Rattle.svd_model.specs.Keys.{Key, derived_from, at_offset}
@@ -18,7 +17,7 @@ use Rattle.svd_keys.specs.declared.fault.BadKind.TheVariants as bad
 use Rattle.svd_keys.specs.declared.fault.PlacedFault.{PlacedFault}
 use Rattle.svd_keys.specs.declared.fault.Required.TheVariants as required
 use Rattle.svd_keys.specs.declared.keys.Keys.{Keys}
-use Rattle.svd_keys.specs.Children.{Tree, child, strays, unknown_in, when}
+use Rattle.svd_keys.specs.Children.{Tree, child, strays, when}
 use Rattle.svd_keys.specs.Forms.{number_of, range_of, path_of, access_of}
 use Rattle.svd_keys.specs.KeysOf.{derived_of, keys_of}
 use Rattle.svd_keys.specs.Missing.{states, lack_key, missing, missing_ends, missing_place, missing_of, missing_faults}
@@ -42,8 +41,7 @@ good_form {X = X} form kind (Some found) faults there = cases (form (value_text 
 
 pub valued : {X : Type 0} (form : List ℕ → Option X) (kind : BadKind) (key : KeyName) (tree : Tree) → key_faults form kind key tree ≡ [] → states key tree ≡ true → (x : X) × (value_of form key tree ≡ Some x)
 unfolding key_faults value_of
-valued form kind key tree faults there =
-    good_form form kind (child (key_name key) tree) (rest_none (strays (key_name key) tree) (bad_form form kind (child (key_name key) tree)) faults) there
+valued form kind key tree faults there = good_form form kind (child key tree) faults there
 
 -- a source that isn't at fault is a path
 pub derived_valued : (source : Option (List ℕ × ℕ)) → source_faults source ≡ [] → is_some source ≡ true → (path : List Step) × (derived_of source ≡ Some path)
@@ -110,14 +108,14 @@ rising_place low high (Some found) there faults =
     let rises : low ≤ high = ltb-false high low (when_none (nat_lt high low) (bad_value bad.Place found) faults) in
     (low, rw (le-leb low high rises) refl)
 
-ends_place : (tree : Tree) → IsPlaceFaultless tree → has_ends tree ≡ true → bad_place (falls (value_of number_of key.Lsb tree) (value_of number_of key.Msb tree)) (child (key_name key.Msb) tree) ≡ []
+ends_place : (tree : Tree) → IsPlaceFaultless tree → has_ends tree ≡ true → bad_place (falls (value_of number_of key.Lsb tree) (value_of number_of key.Msb tree)) (child key.Msb tree) ≡ []
     → (n : ℕ) × ((place_from (value_of number_of key.Lsb tree) (value_of number_of key.Msb tree)).offset ≡ Some n)
 ends_place tree good ended faults =
     let both = and_parts (states key.Lsb tree) (states key.Msb tree) ended in
     let low = valued number_of bad.Number key.Lsb tree good.low both.0 in
     let high = valued number_of bad.Number key.Msb tree good.high both.1 in
-    let rises : bad_place (falls (Some low.0) (Some high.0)) (child (key_name key.Msb) tree) ≡ [] = rw (low.1, high.1) at faults in
-    rw (low.1, high.1) (rising_place low.0 high.0 (child (key_name key.Msb) tree) both.1 rises)
+    let rises : bad_place (falls (Some low.0) (Some high.0)) (child key.Msb tree) ≡ [] = rw (low.1, high.1) at faults in
+    rw (low.1, high.1) (rising_place low.0 high.0 (child key.Msb tree) both.1 rises)
 
 -- one of the three forms of a place stands
 abbrev is_placed : Tree → Bool
@@ -128,8 +126,8 @@ unfolding place_of place_with form_faults
 place_stated tree good placed = cases (states key.BitRange tree) (has_ends tree) refl refl placed good.form
   where
     cases : (ranged ended : Bool) → states key.BitRange tree ≡ ranged → has_ends tree ≡ ended → (ranged || (ended || states key.BitOffset tree)) ≡ true
-        → (if ranged then [] else (if ended then bad_place (falls (value_of number_of key.Lsb tree) (value_of number_of key.Msb tree)) (child (key_name key.Msb) tree)
-        else bad_place (is_zero (value_of number_of key.BitWidth tree)) (child (key_name key.BitWidth) tree))) ≡ []
+        → (if ranged then [] else (if ended then bad_place (falls (value_of number_of key.Lsb tree) (value_of number_of key.Msb tree)) (child key.Msb tree)
+        else bad_place (is_zero (value_of number_of key.BitWidth tree)) (child key.BitWidth tree))) ≡ []
         → (n : ℕ) × ((if ranged then unwrap_or (value_of range_of key.BitRange tree) no_place
         else (if ended then place_from (value_of number_of key.Lsb tree) (value_of number_of key.Msb tree)
         else record { offset = value_of number_of key.BitOffset tree; width = value_of number_of key.BitWidth tree })).offset ≡ Some n)
@@ -175,7 +173,7 @@ record IsFieldFaultless (tree : Tree) : Type 0 where
 field_parts : (tree : Tree) → own_faults Field tree ≡ [] → IsFieldFaultless tree
 unfolding own_faults row_faults named_faults missing_faults missing_of
 field_parts tree faults =
-    let own : row_faults Field tree ++ missing_faults Field tree ≡ [] = rest_none (unknown_in Field tree) (row_faults Field tree ++ missing_faults Field tree) faults in
+    let own : row_faults Field tree ++ missing_faults Field tree ≡ [] = rest_none (strays tree) (row_faults Field tree ++ missing_faults Field tree) faults in
     let row : named_faults tree ++ (place_faults tree ++ (key_faults access_of bad.Word key.Access tree ++ effect_faults tree)) ≡ [] = first_none (row_faults Field tree) (missing_faults Field tree) own in
     let named : name_faults key.Name tree ++ (source_faults tree.0.source ++ dim_faults tree) ≡ [] = first_none (named_faults tree) (place_faults tree ++ (key_faults access_of bad.Word key.Access tree ++ effect_faults tree)) row in
     let lacks : lack_key key.Name tree ++ missing_place tree ≡ [] = none_left (missing tree) (lack_key key.Name tree ++ missing_place tree) (rest_none (row_faults Field tree) (missing_faults Field tree) own) in

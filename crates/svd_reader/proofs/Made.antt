@@ -1,7 +1,6 @@
 -- What is made of the keys of an element is what the element describes.
 use Rattle.std.proofs.Common.{◌≡◌, ℕ, true, false, List, [], ◌∷◌, map, flat_map, Option, Some, None, unwrap_or, refl, sym, ap, ap₂, ◌∙◌}
 use Rattle.svd_schema.specs.declared.container.Container.TheVariants as container
-use Rattle.svd_schema.specs.Names.{container_name}
 use Rattle.svd_text.specs.declared.element.Element.{Element, out-Element}
 use Rattle.svd_text.specs.Views.{element_of}
 use Rattle.svd_model.specs.declared.device.Child.{Child}
@@ -22,8 +21,9 @@ use Rattle.svd_model.specs.Trees.{value_places, set_places, field_places, regist
 use Rattle.svd_model.proofs.Trees.{item_under-roll, child_tree-cluster, child_tree-register, cluster_tree-roll}
 use Rattle.svd_rows.specs.Forest.{Forest, leaf, siblings}
 use Rattle.svd_rows.specs.Ranks.{stated}
+use Rattle.svd_schema.specs.declared.roles.Role.TheVariants.{Holds}
 use Rattle.svd_keys.specs.declared.keys.Keys.{Keys}
-use Rattle.svd_keys.specs.Children.{Tree, has_name, members}
+use Rattle.svd_keys.specs.Children.{Tree, has_role, members}
 use Rattle.svd_keys.specs.KeysOf.{keys_of}
 use Rattle.svd_keys.specs.WrittenNames.{is_reserved_name}
 use Rattle.svd_reader.specs.DescribedTree.{RowTree, places_of, placed, labelled, unreserved, inside, value_at, values_in, set_at, sets_in, field_at, fields_in, register_at, cluster_at, child_at, children_in, peripheral_at, peripherals_in, described_tree}
@@ -32,11 +32,11 @@ use Rattle.svd_reader.proofs.Members.{all-of, children-of, children-members}
 
 -- ---- enumerated values
 
-pub other-value : (tree : Tree) → has_name (container_name container.Variant) tree ≡ false → [] ≡ value_at tree
+pub other-value : (tree : Tree) → has_role (Holds container.Variant) tree ≡ false → [] ≡ value_at tree
 unfolding value_at
 other-value tree named = rw named refl
 
-pub unnamed-value : (tree : Tree) (keys : Keys) → has_name (container_name container.Variant) tree ≡ true → keys ≡ keys_of container.Variant tree → keys.label ≡ None → [] ≡ value_at tree
+pub unnamed-value : (tree : Tree) (keys : Keys) → has_role (Holds container.Variant) tree ≡ true → keys ≡ keys_of container.Variant tree → keys.label ≡ None → [] ≡ value_at tree
 unfolding value_at
 unnamed-value tree keys named is said =
     let label : (keys_of container.Variant tree).label ≡ None = sym (ap (λ (k : Keys). k.label) is) ∙ said in
@@ -49,7 +49,7 @@ value_keys tree made same = rw same refl
 labelled-some : (label : Option (List ℕ)) (name : List ℕ) (made tree : RowTree) → label ≡ Some name → made ≡ tree → (name, made) ∷ [] ≡ labelled label tree
 labelled-some label name made tree is same = rw is (ap (λ (t : RowTree). (name, t) ∷ []) same)
 
-pub named-value : (tree : Tree) (keys : Keys) (made : Variant) → has_name (container_name container.Variant) tree ≡ true → keys ≡ keys_of container.Variant tree
+pub named-value : (tree : Tree) (keys : Keys) (made : Variant) → has_role (Holds container.Variant) tree ≡ true → keys ≡ keys_of container.Variant tree
     → keys.label ≡ Some made.name → made.value ≡ keys.value → value_tree made ∷ [] ≡ value_at tree
 unfolding value_at
 named-value tree keys made named is said same =
@@ -60,7 +60,7 @@ named-value tree keys made named is said same =
 
 -- ---- sets
 
-pub other-set : (tree : Tree) → has_name (container_name container.ValueSet) tree ≡ false → [] ≡ set_at tree
+pub other-set : (tree : Tree) → has_role (Holds container.ValueSet) tree ≡ false → [] ≡ set_at tree
 unfolding set_at
 other-set tree named = rw named refl
 
@@ -68,7 +68,7 @@ set_keys : (tree : Tree) (made : Values) → made.derived ≡ (keys_of container
 unfolding set_places places_of keys_of stated
 set_keys tree made derived usage = rw (derived, usage) refl
 
-pub named-set : (e : Element) (items : List Element) (keys : Keys) (made : Values) → has_name (container_name container.ValueSet) (element_of e) ≡ true → keys ≡ keys_of container.ValueSet (element_of e)
+pub named-set : (e : Element) (items : List Element) (keys : Keys) (made : Values) → has_role (Holds container.ValueSet) (element_of e) ≡ true → keys ≡ keys_of container.ValueSet (element_of e)
     → made.name ≡ keys.name → made.derived ≡ keys.derived → made.usage ≡ keys.usage
     → items ≡ (out-Element e).children.items → map value_tree made.items.items ≡ flat_map value_at (map element_of items)
     → set_tree made ∷ [] ≡ set_at (element_of e)
@@ -83,17 +83,17 @@ named-set e items keys made named is name derived usage children says =
 
 -- ---- fields
 
-pub other-field : (tree : Tree) → has_name (container_name container.Field) tree ≡ false → [] ≡ field_at tree
+pub other-field : (tree : Tree) → has_role (Holds container.Field) tree ≡ false → [] ≡ field_at tree
 unfolding field_at
 other-field tree named = rw named refl
 
-pub unnamed-field : (tree : Tree) (keys : Keys) → has_name (container_name container.Field) tree ≡ true → keys ≡ keys_of container.Field tree → keys.name ≡ None → [] ≡ field_at tree
+pub unnamed-field : (tree : Tree) (keys : Keys) → has_role (Holds container.Field) tree ≡ true → keys ≡ keys_of container.Field tree → keys.name ≡ None → [] ≡ field_at tree
 unfolding field_at
 unnamed-field tree keys named is said =
     let name : (keys_of container.Field tree).name ≡ None = sym (ap (λ (k : Keys). k.name) is) ∙ said in
     rw named (rw name refl)
 
-pub reserved-field : (tree : Tree) (keys : Keys) (called : List ℕ) → has_name (container_name container.Field) tree ≡ true → keys ≡ keys_of container.Field tree → keys.name ≡ Some called → is_reserved_name called ≡ true → [] ≡ field_at tree
+pub reserved-field : (tree : Tree) (keys : Keys) (called : List ℕ) → has_role (Holds container.Field) tree ≡ true → keys ≡ keys_of container.Field tree → keys.name ≡ Some called → is_reserved_name called ≡ true → [] ≡ field_at tree
 unfolding field_at
 reserved-field tree keys called named is said reserved =
     let name : (keys_of container.Field tree).name ≡ Some called = sym (ap (λ (k : Keys). k.name) is) ∙ said in
@@ -109,7 +109,7 @@ unfolding field_places places_of keys_of stated
 field_keys tree keys made is derived dim place access kind action =
     rw (derived ∙ ap (λ (k : Keys). k.derived) is, dim ∙ ap (λ (k : Keys). k.dim) is, place ∙ ap (λ (k : Keys). k.place) is, access ∙ ap (λ (k : Keys). k.props.access) is, kind ∙ ap (λ (k : Keys). k.kind) is, action ∙ ap (λ (k : Keys). k.action) is) refl
 
-pub named-field : (e : Element) (items : List Element) (keys : Keys) (called : List ℕ) (made : Field) → has_name (container_name container.Field) (element_of e) ≡ true → keys ≡ keys_of container.Field (element_of e) → keys.name ≡ Some called → is_reserved_name called ≡ false
+pub named-field : (e : Element) (items : List Element) (keys : Keys) (called : List ℕ) (made : Field) → has_role (Holds container.Field) (element_of e) ≡ true → keys ≡ keys_of container.Field (element_of e) → keys.name ≡ Some called → is_reserved_name called ≡ false
     → made.derived ≡ keys.derived → made.dim ≡ keys.dim → made.place ≡ keys.place → made.access ≡ keys.props.access → made.kind ≡ keys.kind → made.action ≡ keys.action
     → items ≡ (out-Element e).children.items → map set_tree made.values.items ≡ flat_map set_at (map element_of items)
     → field_under (record { name = called; number = 0 }, made) ∷ [] ≡ field_at (element_of e)
@@ -162,7 +162,7 @@ item-cluster key element =
 
 pub named-register : (tree : Tree) (keys : Keys) (called : List ℕ) (made : Register) (trees : List Tree) → keys ≡ keys_of container.Register tree → keys.offset ≡ Some made.offset → keys.name ≡ Some called
     → made.derived ≡ keys.derived → made.dim ≡ keys.dim → made.alternate ≡ keys.alternate → made.group ≡ keys.group → made.props ≡ keys.props → made.kind ≡ keys.kind → made.action ≡ keys.action
-    → trees ≡ members (inside (container_name container.Fields) tree) → map field_under made.fields.entries ≡ flat_map field_at trees
+    → trees ≡ members (inside container.Fields tree) → map field_under made.fields.entries ≡ flat_map field_at trees
     → item_under (roll-Item (record { key = record { name = called; number = 0 }; child = RegisterIs made })) ∷ [] ≡ register_at tree
 unfolding register_at fields_in
 named-register tree keys called made trees is offset said derived dim alternate group props kind action all says =
@@ -201,27 +201,27 @@ named-cluster e keys called made items is offset said derived dim alternate prop
     (cluster_keys (element_of e) keys made is offset derived dim alternate props)
     (ap siblings (says ∙ children-of e items children)))
 
-pub cluster-child : (tree : Tree) → has_name (container_name container.Cluster) tree ≡ true → cluster_at tree (children_in tree.1) ≡ child_of tree
+pub cluster-child : (tree : Tree) → has_role (Holds container.Cluster) tree ≡ true → cluster_at tree (children_in tree.1) ≡ child_of tree
 unfolding child_of child_at
 cluster-child tree named = rw named refl
 
-pub register-child : (tree : Tree) → has_name (container_name container.Cluster) tree ≡ false → has_name (container_name container.Register) tree ≡ true → register_at tree ≡ child_of tree
+pub register-child : (tree : Tree) → has_role (Holds container.Cluster) tree ≡ false → has_role (Holds container.Register) tree ≡ true → register_at tree ≡ child_of tree
 unfolding child_of child_at
 register-child tree other named = rw (other, named) refl
 
-pub other-child : (tree : Tree) → has_name (container_name container.Cluster) tree ≡ false → has_name (container_name container.Register) tree ≡ false → [] ≡ child_of tree
+pub other-child : (tree : Tree) → has_role (Holds container.Cluster) tree ≡ false → has_role (Holds container.Register) tree ≡ false → [] ≡ child_of tree
 unfolding child_of child_at
 other-child tree other named = rw (other, named) refl
 
-pub other-peripheral : (tree : Tree) → has_name (container_name container.Peripheral) tree ≡ false → [] ≡ peripheral_at tree
+pub other-peripheral : (tree : Tree) → has_role (Holds container.Peripheral) tree ≡ false → [] ≡ peripheral_at tree
 unfolding peripheral_at
 other-peripheral tree named = rw named refl
 
-pub unplaced-peripheral : (tree : Tree) (keys : Keys) → has_name (container_name container.Peripheral) tree ≡ true → keys ≡ keys_of container.Peripheral tree → keys.base ≡ None → [] ≡ peripheral_at tree
+pub unplaced-peripheral : (tree : Tree) (keys : Keys) → has_role (Holds container.Peripheral) tree ≡ true → keys ≡ keys_of container.Peripheral tree → keys.base ≡ None → [] ≡ peripheral_at tree
 unfolding peripheral_at
 unplaced-peripheral tree keys named is said = rw named (unplaced peripheral _ _ _ (sym (ap (λ (k : Keys). k.base) is) ∙ said))
 
-pub unnamed-peripheral : (tree : Tree) (keys : Keys) → has_name (container_name container.Peripheral) tree ≡ true → keys ≡ keys_of container.Peripheral tree → keys.name ≡ None → [] ≡ peripheral_at tree
+pub unnamed-peripheral : (tree : Tree) (keys : Keys) → has_role (Holds container.Peripheral) tree ≡ true → keys ≡ keys_of container.Peripheral tree → keys.name ≡ None → [] ≡ peripheral_at tree
 unfolding peripheral_at
 unnamed-peripheral tree keys named is said = rw named (unnamed peripheral _ _ _ (sym (ap (λ (k : Keys). k.name) is) ∙ said))
 
@@ -232,9 +232,9 @@ unfolding peripheral_places places_of keys_of stated
 peripheral_keys tree keys made is base derived dim props =
     rw (derived ∙ ap (λ (k : Keys). k.derived) is, dim ∙ ap (λ (k : Keys). k.dim) is, props ∙ ap (λ (k : Keys). k.props) is, sym (ap (λ (k : Keys). k.base) is) ∙ base) refl
 
-pub named-peripheral : (tree : Tree) (keys : Keys) (called : List ℕ) (made : Peripheral) (trees : List Tree) → has_name (container_name container.Peripheral) tree ≡ true → keys ≡ keys_of container.Peripheral tree → keys.base ≡ Some made.base → keys.name ≡ Some called
+pub named-peripheral : (tree : Tree) (keys : Keys) (called : List ℕ) (made : Peripheral) (trees : List Tree) → has_role (Holds container.Peripheral) tree ≡ true → keys ≡ keys_of container.Peripheral tree → keys.base ≡ Some made.base → keys.name ≡ Some called
     → made.derived ≡ keys.derived → made.dim ≡ keys.dim → made.props ≡ keys.props
-    → trees ≡ members (inside (container_name container.Registers) tree) → map item_under made.children.items ≡ flat_map child_of trees
+    → trees ≡ members (inside container.Registers tree) → map item_under made.children.items ≡ flat_map child_of trees
     → peripheral_under (record { name = called; number = 0 }, made) ∷ [] ≡ peripheral_at tree
 unfolding peripheral_at
 named-peripheral tree keys called made trees named is base said derived dim props all says =
@@ -243,7 +243,7 @@ named-peripheral tree keys called made trees named is base said derived dim prop
     (sym (ap (λ (k : Keys). k.name) is) ∙ said) (sym (ap (λ (k : Keys). k.base) is) ∙ base)
     (ap₂ (λ (ks : List Key) (f : Forest Step Key). record { keys = ks; below = f })
     (peripheral_keys tree keys made is base derived dim props)
-    (ap siblings (says ∙ ap (flat_map child_of) all ∙ sym (children-members (inside (container_name container.Registers) tree))))))
+    (ap siblings (says ∙ ap (flat_map child_of) all ∙ sym (children-members (inside container.Registers tree))))))
 
 -- ---- the device
 
@@ -253,7 +253,7 @@ unfolding device_places places_of keys_of stated
 device_keys tree keys made is name props = rw (name ∙ ap (λ (k : Keys). unwrap_or k.label []) is, props ∙ ap (λ (k : Keys). k.props) is) refl
 
 pub named-device : (tree : Tree) (keys : Keys) (made : Device) (trees : List Tree) → keys ≡ keys_of container.Device tree → made.name ≡ unwrap_or keys.label [] → made.props ≡ keys.props
-    → trees ≡ members (inside (container_name container.Peripherals) tree) → map peripheral_under made.peripherals.entries ≡ flat_map peripheral_at trees
+    → trees ≡ members (inside container.Peripherals tree) → map peripheral_under made.peripherals.entries ≡ flat_map peripheral_at trees
     → device_tree made ≡ described_tree tree
 unfolding device_tree described_tree peripherals_in
 named-device tree keys made trees is name props all says =

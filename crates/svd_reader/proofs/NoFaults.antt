@@ -2,16 +2,15 @@
 -- container in it.
 use Rattle.std.proofs.Common.{◌≡◌, ℕ, List, [], ◌∷◌, ◌++◌, Bool, true, false, cond, nat_le, refl, sym, ap, ◌∙◌, subst, Option, Some, None, find, map}
 use Rattle.std.specs.List.{AllByRecursion}
-use Rattle.std.proofs.lemmas.Slice.Eq.{bytes_eq-Decides}
 use Rattle.svd_schema.specs.declared.container.Container.{Container}
 use Rattle.svd_schema.specs.declared.roles.Role.{Role}
 use Rattle.svd_schema.specs.declared.roles.Role.TheVariants.{Holds, States, PassedOver}
-use Rattle.svd_schema.specs.Table.{role_of}
 use Rattle.svd_text.specs.Tree.{Elements, none, element}
 use Rattle.svd_keys.specs.declared.fault.PlacedFault.{PlacedFault}
-use Rattle.svd_keys.specs.Children.{Tree, members, has_name, child, when}
+use Rattle.svd_keys.specs.Children.{Tree, members, has_role, first, when}
 use Rattle.svd_keys.specs.Earliest.{earlier, least}
 use Rattle.svd_keys.specs.OwnFaults.{own_faults}
+use Rattle.svd_keys.proofs.RoleNumbers.{role_is}
 use Rattle.svd_reader.specs.DoubleNames.{double_names, double_names_behind}
 use Rattle.svd_reader.specs.Faults.{faults_by, faults_in, faults_of}
 use Rattle.svd_reader.specs.DescribedTree.{inside}
@@ -76,55 +75,51 @@ abbrev pub IsFaultless : Option Role → Tree → Type 0
 IsFaultless (Some (Holds inner)) tree = faults_of inner tree ≡ []
 IsFaultless _ tree = Unit {0}
 
-pub by_role : (role : Option Role) (tree : Tree) → faults_by role tree (λ inner. faults_in inner tree.1) ≡ [] → IsFaultless role tree
+pub by_role : (role : Option Role) (tree : Tree) → faults_by role tree (λ inner. faults_in tree.1) ≡ [] → IsFaultless role tree
 unfolding faults_of
 by_role None tree is = tt
 by_role (Some (Holds inner)) tree is = is
 by_role (Some (States key)) tree is = tt
 by_role (Some PassedOver) tree is = tt
 
-pub each_faultless : (container : Container) (elements : Elements) → faults_in container elements ≡ [] → AllByRecursion (λ tree. IsFaultless (role_of container tree.0.name) tree) (members elements)
+pub each_faultless : (elements : Elements) → faults_in elements ≡ [] → AllByRecursion (λ tree. IsFaultless tree.0.role tree) (members elements)
 unfolding faults_in members
-each_faultless container none is = tt
-each_faultless container (element head children siblings) is =
-    let here = faults_by (role_of container head.name) (head, children) (λ inner. faults_in inner children) in (
-      by_role (role_of container head.name) (head, children) (first_none here (faults_in container siblings) is),
-      each_faultless container siblings (rest_none here (faults_in container siblings) is),
+each_faultless none is = tt
+each_faultless (element head children siblings) is =
+    let here = faults_by head.role (head, children) (λ inner. faults_in children) in (
+      by_role head.role (head, children) (first_none here (faults_in siblings) is),
+      each_faultless siblings (rest_none here (faults_in siblings) is),
     )
 
 -- the parts of what is at fault in an element
 pub own_none : (container : Container) (tree : Tree) → faults_of container tree ≡ [] → own_faults container tree ≡ []
 unfolding faults_of
-own_none container tree is = first_none (own_faults container tree) (double_names container (members tree.1) ++ faults_in container tree.1) is
+own_none container tree is = first_none (own_faults container tree) (double_names (members tree.1) ++ faults_in tree.1) is
 
-pub doubles_none : (container : Container) (tree : Tree) → faults_of container tree ≡ [] → double_names container (members tree.1) ≡ []
+pub doubles_none : (container : Container) (tree : Tree) → faults_of container tree ≡ [] → double_names (members tree.1) ≡ []
 unfolding faults_of
 doubles_none container tree is =
-    first_none (double_names container (members tree.1)) (faults_in container tree.1)
-    (rest_none (own_faults container tree) (double_names container (members tree.1) ++ faults_in container tree.1) is)
+    first_none (double_names (members tree.1)) (faults_in tree.1)
+    (rest_none (own_faults container tree) (double_names (members tree.1) ++ faults_in tree.1) is)
 
-pub inner_none : (container : Container) (tree : Tree) → faults_of container tree ≡ [] → faults_in container tree.1 ≡ []
+pub inner_none : (container : Container) (tree : Tree) → faults_of container tree ≡ [] → faults_in tree.1 ≡ []
 unfolding faults_of
 inner_none container tree is =
-    rest_none (double_names container (members tree.1)) (faults_in container tree.1)
-    (rest_none (own_faults container tree) (double_names container (members tree.1) ++ faults_in container tree.1) is)
+    rest_none (double_names (members tree.1)) (faults_in tree.1)
+    (rest_none (own_faults container tree) (double_names (members tree.1) ++ faults_in tree.1) is)
 
--- an element of that name is what its name says
-pub named_role : (container : Container) (name : List ℕ) (tree : Tree) (role : Option Role) → role_of container name ≡ role → has_name name tree ≡ true → role_of container tree.0.name ≡ role
-named_role container name tree role is named = ap (role_of container) ((bytes_eq-Decides tree.0.name name).0 named) ∙ is
-
--- nothing is at fault among the elements in the first element of a name
+-- nothing is at fault among the elements in the first container of a kind
 pub record IsInsideFaultless (container : Container) (elements : Elements) : Type 0 where
-  pub doubles : double_names container (members elements) ≡ []
-  pub inner : faults_in container elements ≡ []
+  pub doubles : double_names (members elements) ≡ []
+  pub inner : faults_in elements ≡ []
 
-inside_none : (name : List ℕ) (tree : Tree) → child name tree ≡ None → inside name tree ≡ none
+inside_none : (container : Container) (tree : Tree) → first (Holds container) tree ≡ None → inside container tree ≡ none
 unfolding inside
-inside_none name tree is = rw is refl
+inside_none container tree is = rw is refl
 
-inside_some : (name : List ℕ) (tree found : Tree) → child name tree ≡ Some found → inside name tree ≡ found.1
+inside_some : (container : Container) (tree found : Tree) → first (Holds container) tree ≡ Some found → inside container tree ≡ found.1
 unfolding inside
-inside_some name tree found is = rw is refl
+inside_some container tree found is = rw is refl
 
 nothing_inside : (container : Container) → IsInsideFaultless container none
 unfolding double_names double_names_behind members faults_in
@@ -133,13 +128,13 @@ nothing_inside container = record { doubles = refl; inner = refl }
 all_inside : (container : Container) (tree : Tree) → faults_of container tree ≡ [] → IsInsideFaultless container tree.1
 all_inside container tree is = record { doubles = doubles_none container tree is; inner = inner_none container tree is }
 
-pub inside_faultless : (container inner : Container) (name : List ℕ) (tree : Tree) → role_of container name ≡ Some (Holds inner) → faults_in container tree.1 ≡ [] → IsInsideFaultless inner (inside name tree)
-unfolding child
-inside_faultless container inner name tree role is = cases (child name tree) refl
+pub inside_faultless : (inner : Container) (tree : Tree) → faults_in tree.1 ≡ [] → IsInsideFaultless inner (inside inner tree)
+unfolding first
+inside_faultless inner tree is = cases (first (Holds inner) tree) refl
   where
-    cases : (answer : Option Tree) → child name tree ≡ answer → IsInsideFaultless inner (inside name tree)
-    cases None e = subst (IsInsideFaultless inner) (sym (inside_none name tree e)) (nothing_inside inner)
+    cases : (answer : Option Tree) → first (Holds inner) tree ≡ answer → IsInsideFaultless inner (inside inner tree)
+    cases None e = subst (IsInsideFaultless inner) (sym (inside_none inner tree e)) (nothing_inside inner)
     cases (Some found) e =
-        let one = found_one (has_name name) (λ other. IsFaultless (role_of container other.0.name) other) (members tree.1) found (each_faultless container tree.1 is) e in
-        let faultless : faults_of inner found ≡ [] = subst (λ what. IsFaultless what found) (named_role container name found (Some (Holds inner)) role one.0) one.1 in
-        subst (IsInsideFaultless inner) (sym (inside_some name tree found e)) (all_inside inner found faultless)
+        let one = found_one (has_role (Holds inner)) (λ other. IsFaultless other.0.role other) (members tree.1) found (each_faultless tree.1 is) e in
+        let faultless : faults_of inner found ≡ [] = subst (λ what. IsFaultless what found) (role_is (Holds inner) found one.0) one.1 in
+        subst (IsInsideFaultless inner) (sym (inside_some inner tree found e)) (all_inside inner found faultless)

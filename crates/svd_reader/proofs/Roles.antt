@@ -3,7 +3,6 @@ use Rattle.std.proofs.Common.{◌≡◌, [], ◌++◌, Option, Some, None, refl,
 use Rattle.svd_schema.specs.declared.container.Container.{Container}
 use Rattle.svd_schema.specs.declared.roles.Role.{Role}
 use Rattle.svd_schema.specs.declared.roles.Role.TheVariants.{Holds, States, PassedOver}
-use Rattle.svd_schema.specs.Table.{role_of}
 use Rattle.svd_keys.specs.Children.{Tree, members}
 use Rattle.svd_keys.specs.Earliest.{least}
 use Rattle.svd_keys.specs.OwnFaults.{own_faults}
@@ -24,31 +23,31 @@ name_by-none (Some (Holds other)) tree is = absurd (cc)
 name_by-none (Some (States key)) tree is = refl
 name_by-none (Some PassedOver) tree is = refl
 
-pub name_in-some : (container inner : Container) (tree : Tree) → Some inner ≡ held_as (role_of container tree.0.name) → name_in container tree ≡ sibling_name inner tree
+pub name_in-some : (inner : Container) (tree : Tree) → Some inner ≡ held_as tree.0.role → name_in tree ≡ sibling_name inner tree
 unfolding name_in
-name_in-some container inner tree is = name_by-some (role_of container tree.0.name) tree inner is
+name_in-some inner tree is = name_by-some tree.0.role tree inner is
 
-pub name_in-none : (container : Container) (tree : Tree) → None ≡ held_as (role_of container tree.0.name) → None ≡ name_in container tree
+pub name_in-none : (tree : Tree) → None ≡ held_as tree.0.role → None ≡ name_in tree
 unfolding name_in
-name_in-none container tree is = name_by-none (role_of container tree.0.name) tree is
+name_in-none tree is = name_by-none tree.0.role tree is
 
-faults_by-some : (role : Option Role) (tree : Tree) (inner : Container) → Some inner ≡ held_as role → faults_by role tree (λ found. faults_in found tree.1) ≡ faults_of inner tree
+faults_by-some : (role : Option Role) (tree : Tree) (inner : Container) → Some inner ≡ held_as role → faults_by role tree (λ found. faults_in tree.1) ≡ faults_of inner tree
 unfolding faults_of
 faults_by-some None tree inner is = absurd (cc)
-faults_by-some (Some (Holds other)) tree inner is = let same : inner ≡ other = cc in ap (λ found. own_faults found tree ++ (double_names found (members tree.1) ++ faults_in found tree.1)) (sym same)
+faults_by-some (Some (Holds other)) tree inner is = let same : inner ≡ other = cc in ap (λ found. own_faults found tree ++ (double_names (members tree.1) ++ faults_in tree.1)) (sym same)
 faults_by-some (Some (States key)) tree inner is = absurd (cc)
 faults_by-some (Some PassedOver) tree inner is = absurd (cc)
 
-faults_by-none : (role : Option Role) (tree : Tree) → None ≡ held_as role → [] ≡ faults_by role tree (λ found. faults_in found tree.1)
+faults_by-none : (role : Option Role) (tree : Tree) → None ≡ held_as role → [] ≡ faults_by role tree (λ found. faults_in tree.1)
 faults_by-none None tree is = refl
 faults_by-none (Some (Holds other)) tree is = absurd (cc)
 faults_by-none (Some (States key)) tree is = refl
 faults_by-none (Some PassedOver) tree is = refl
 
-pub held-some : (container inner : Container) (tree : Tree) → Some inner ≡ held_as (role_of container tree.0.name) → faults_of inner tree ≡ held_faults container tree
+pub held-some : (inner : Container) (tree : Tree) → Some inner ≡ held_as tree.0.role → faults_of inner tree ≡ held_faults tree
 unfolding held_faults
-held-some container inner tree is = sym (faults_by-some (role_of container tree.0.name) tree inner is)
+held-some inner tree is = sym (faults_by-some tree.0.role tree inner is)
 
-pub held-none : (container : Container) (tree : Tree) → None ≡ held_as (role_of container tree.0.name) → None ≡ least (held_faults container tree)
+pub held-none : (tree : Tree) → None ≡ held_as tree.0.role → None ≡ least (held_faults tree)
 unfolding held_faults least
-held-none container tree is = ap least (faults_by-none (role_of container tree.0.name) tree is)
+held-none tree is = ap least (faults_by-none tree.0.role tree is)

@@ -6,7 +6,6 @@ use Rattle.std.proofs.lemmas.Bool.{true≢false, cases_Bool, ne_eqb}
 use Rattle.std.proofs.lemmas.Slice.Eq.{bytes_eq-Decides}
 use Rattle.pac_base.specs.declared.span.Span.{Span}
 use Rattle.svd_schema.specs.declared.container.Container.{Container}
-use Rattle.svd_schema.specs.Names.{key_name}
 use Rattle.svd_schema.specs.declared.key.Key.TheVariants as key
 use Rattle.svd_model.specs.Keys.{Key}
 use Rattle.svd_model.specs.Steps.{Step, Kind, same_key}
@@ -21,16 +20,16 @@ use Rattle.svd_reader.specs.DoubleNames.{name_in, same_name, where_again, double
 use Rattle.svd_reader.proofs.NoFaults.{first_none, rest_none}
 
 -- an element is listed under the name that it has among its siblings
-pub record IsNamed (container : Container) (tree : Tree) (step : Step) : Type 0 where
-  pub named : name_in container tree ≡ Some step.name
+pub record IsNamed (tree : Tree) (step : Step) : Type 0 where
+  pub named : name_in tree ≡ Some step.name
   pub written : written_name tree ≡ Some step.name
   pub number : step.number ≡ 0
 
 -- an element is listed once at most, and then under its name
-abbrev pub IsListed : Container → Tree → List (Step × RowTree) → Type 0
-IsListed container tree [] = Unit {0}
-IsListed container tree (only ∷ []) = IsNamed container tree only.0
-IsListed container tree (first ∷ (second ∷ others)) = ⊥
+abbrev pub IsListed : Tree → List (Step × RowTree) → Type 0
+IsListed tree [] = Unit {0}
+IsListed tree (only ∷ []) = IsNamed tree only.0
+IsListed tree (first ∷ (second ∷ others)) = ⊥
 
 -- an element that stands before: what passes a test at it passes it at one of those
 abbrev pub IsBefore : Tree → List Tree → Type 0
@@ -55,7 +54,7 @@ any_last test (y ∷ xs) x h = either (test y) (any_last test xs x h)
 -- where its name is written it stands somewhere
 span_written : (tree : Tree) (name : List ℕ) → written_name tree ≡ Some name → (span : Span) × (written_span tree ≡ Some span)
 unfolding written_name written_span child
-span_written tree name is = cases (child (key_name key.Name) tree) is
+span_written tree name is = cases (child key.Name tree) is
   where
     cases : (found : Option Tree) → option_map (λ (other : Tree). value_text other.0) found ≡ Some name → (span : Span) × (option_map (λ (other : Tree). value_span other.0) found ≡ Some span)
     cases None e = cc
@@ -67,12 +66,12 @@ not_again false span there is faults = refl
 not_again true None there is faults = cc
 not_again true (Some at) there is faults = cc
 
-fresh_name : (container : Container) (before : List Tree) (tree : Tree) (step : Step) → IsNamed container tree step → double_name container before tree ≡ []
-    → list_any (λ other. same_name (name_in container tree) (name_in container other)) before ≡ false
+fresh_name : (before : List Tree) (tree : Tree) (step : Step) → IsNamed tree step → double_name before tree ≡ []
+    → list_any (λ other. same_name (name_in tree) (name_in other)) before ≡ false
 unfolding double_name
-fresh_name container before tree step is faults =
+fresh_name before tree step is faults =
     let there = span_written tree step.name is.written in
-    not_again (list_any (λ other. same_name (name_in container tree) (name_in container other)) before) (written_span tree) there.0 there.1 faults
+    not_again (list_any (λ other. same_name (name_in tree) (name_in other)) before) (written_span tree) there.0 there.1 faults
 
 -- two that are named, where the names aren't equal
 keys_differ : (one other : Step) → bytes_eq other.name one.name ≡ false → same_key one other ≡ false
@@ -82,52 +81,52 @@ keys_differ one other apart = elim (cases_Bool (bytes_eq one.name other.name)) [
   | inr differ ↦ rw differ refl
 ]
 
-names_apart : (container : Container) (before : List Tree) (earlier tree : Tree) (one other : Step) → IsBefore earlier before → IsNamed container earlier one → IsNamed container tree other → double_name container before tree ≡ []
+names_apart : (before : List Tree) (earlier tree : Tree) (one other : Step) → IsBefore earlier before → IsNamed earlier one → IsNamed tree other → double_name before tree ≡ []
     → same_key one other ≡ false
-names_apart container before earlier tree one other is_before first second faults =
+names_apart before earlier tree one other is_before first second faults =
     keys_differ one other (elim (cases_Bool (bytes_eq other.name one.name)) [
-      | inl same ↦ absurd (true≢false (sym (is_before (λ some. same_name (name_in container tree) (name_in container some)) (rw (second.named, first.named) same)) ∙ fresh_name container before tree other second faults))
+      | inl same ↦ absurd (true≢false (sym (is_before (λ some. same_name (name_in tree) (name_in some)) (rw (second.named, first.named) same)) ∙ fresh_name before tree other second faults))
       | inr differ ↦ differ
     ])
 
-module _ (container : Container) (at : Tree → List (Step × RowTree)) (listed : (tree : Tree) → IsListed container tree (at tree)) where
+module _ (at : Tree → List (Step × RowTree)) (listed : (tree : Tree) → IsListed tree (at tree)) where
   -- the steps of what is listed
   abbrev steps_at : List Tree → List Step
   steps_at trees = map (λ entry. entry.0) (flat_map at trees)
 
-  later_apart : (before : List Tree) (trees : List Tree) (earlier : Tree) (one : Step) → IsBefore earlier before → IsNamed container earlier one → double_names_behind container before trees ≡ []
+  later_apart : (before : List Tree) (trees : List Tree) (earlier : Tree) (one : Step) → IsBefore earlier before → IsNamed earlier one → double_names_behind before trees ≡ []
       → AllByRecursion (λ other. same_key one other ≡ false) (steps_at trees)
   unfolding double_names_behind
   later_apart before [] earlier one is_before named faults = tt
   later_apart before (tree ∷ trees) earlier one is_before named faults =
       here (at tree) (listed tree)
       (later_apart (before ++ tree ∷ []) trees earlier one (λ test passes. any_left test before (tree ∷ []) (is_before test passes)) named
-      (rest_none (double_name container before tree) (double_names_behind container (before ++ tree ∷ []) trees) faults))
+      (rest_none (double_name before tree) (double_names_behind (before ++ tree ∷ []) trees) faults))
     where
-      here : (entries : List (Step × RowTree)) → IsListed container tree entries → AllByRecursion (λ other. same_key one other ≡ false) (steps_at trees)
+      here : (entries : List (Step × RowTree)) → IsListed tree entries → AllByRecursion (λ other. same_key one other ≡ false) (steps_at trees)
           → AllByRecursion (λ other. same_key one other ≡ false) (map (λ entry. entry.0) (entries ++ flat_map at trees))
       here [] is others = others
       here (only ∷ []) is others =
-          (names_apart container before earlier tree one only.0 is_before named is (first_none (double_name container before tree) (double_names_behind container (before ++ tree ∷ []) trees) faults), others)
+          (names_apart before earlier tree one only.0 is_before named is (first_none (double_name before tree) (double_names_behind (before ++ tree ∷ []) trees) faults), others)
       here (first ∷ (second ∷ more)) is others = absurd is
 
-  behind_distinct : (before : List Tree) (trees : List Tree) → double_names_behind container before trees ≡ [] → AreDistinct same_key (steps_at trees)
+  behind_distinct : (before : List Tree) (trees : List Tree) → double_names_behind before trees ≡ [] → AreDistinct same_key (steps_at trees)
   unfolding double_names_behind AreDistinct
   behind_distinct before [] faults = tt
   behind_distinct before (tree ∷ trees) faults =
       here (at tree) (listed tree) (behind_distinct (before ++ tree ∷ []) trees others_none)
     where
-      others_none : double_names_behind container (before ++ tree ∷ []) trees ≡ []
-      others_none = rest_none (double_name container before tree) (double_names_behind container (before ++ tree ∷ []) trees) faults
+      others_none : double_names_behind (before ++ tree ∷ []) trees ≡ []
+      others_none = rest_none (double_name before tree) (double_names_behind (before ++ tree ∷ []) trees) faults
 
-      here : (entries : List (Step × RowTree)) → IsListed container tree entries → AreDistinct same_key (steps_at trees) → AreDistinct same_key (map (λ entry. entry.0) (entries ++ flat_map at trees))
+      here : (entries : List (Step × RowTree)) → IsListed tree entries → AreDistinct same_key (steps_at trees) → AreDistinct same_key (map (λ entry. entry.0) (entries ++ flat_map at trees))
       here [] is others = others
       here (only ∷ []) is others =
           (later_apart (before ++ tree ∷ []) trees tree only.0 (λ test passes. any_last test before tree passes) is others_none, others)
       here (first ∷ (second ∷ more)) is others = absurd is
 
   -- the elements that are listed are told apart by their keys
-  pub listed_distinct : (trees : List Tree) → double_names container trees ≡ [] → AreDistinct same_key (map (λ entry. entry.0) (flat_map at trees))
+  pub listed_distinct : (trees : List Tree) → double_names trees ≡ [] → AreDistinct same_key (map (λ entry. entry.0) (flat_map at trees))
   unfolding double_names
   listed_distinct trees faults = behind_distinct [] trees faults
 

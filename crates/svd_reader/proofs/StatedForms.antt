@@ -11,7 +11,6 @@ use Rattle.svd_schema.specs.declared.container.Container.{Container}
 use Rattle.svd_schema.specs.declared.container.Container.TheVariants.{Device, Peripherals, Peripheral, Registers, Cluster, Register, Fields, Field, ValueSet, Variant}
 use Rattle.svd_schema.specs.declared.key.Key.{Key as KeyName}
 use Rattle.svd_schema.specs.declared.key.Key.TheVariants as key
-use Rattle.svd_schema.specs.Names.{key_name}
 use Rattle.svd_values.specs.declared.index.DimIndex.TheVariants.{Numbers, Letters, Words}
 use Rattle.svd_values.specs.declared.place.Place.{Place}
 use Rattle.svd_values.specs.Given.{number_given}
@@ -63,7 +62,7 @@ each_or P (Some x) other first second = first
 -- what holds of all that a form gives holds of the value of a key in that form
 pub each_value : {X : Type 0} (P : X → Type 0) (form : List ℕ → Option X) → ((text : List ℕ) → Each P (form text)) → (key : KeyName) (tree : Tree) → Each P (value_of form key tree)
 unfolding value_of
-each_value P form each key tree = cases (child (key_name key) tree)
+each_value P form each key tree = cases (child key tree)
   where
     cases : (answer : Option Tree) → Each P (option_and_then (λ (found : Tree). form (value_text found.0)) answer)
     cases None = tt

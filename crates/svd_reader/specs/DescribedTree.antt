@@ -3,16 +3,17 @@
 -- no such element.
 use Rattle.std.specs.Prelude.{ℕ, List, [], ◌∷◌, ◌++◌, flat_map, Option, Some, None, option_map, unwrap_or, if◌then◌else◌}
 use Rattle.std.specs.Option.{option_or}
+use Rattle.svd_schema.specs.declared.container.Container.{Container}
 use Rattle.svd_schema.specs.declared.container.Container.TheVariants as container
-use Rattle.svd_schema.specs.Names.{container_name}
 use Rattle.svd_text.specs.Tree.{Elements, none, element}
 use Rattle.svd_model.specs.Keys.{Key, device_name, derived_from, base_address, at_offset, bit_width, alternate_of, alternate_group, write_kind, read_action, value_usage, enumerated_value}
 use Rattle.svd_model.specs.Steps.{Step, Kind, peripheral, cluster, register, field, set, value}
 use Rattle.svd_model.specs.Trees.{dim_places, property_places, numbered}
 use Rattle.svd_rows.specs.Forest.{Forest, Tree as TreeOf, leaf, siblings}
 use Rattle.svd_rows.specs.Ranks.{stated}
+use Rattle.svd_schema.specs.declared.roles.Role.TheVariants.{Holds}
 use Rattle.svd_keys.specs.declared.keys.Keys.{Keys}
-use Rattle.svd_keys.specs.Children.{Tree, members, has_name, child}
+use Rattle.svd_keys.specs.Children.{Tree, members, has_role, first}
 use Rattle.svd_keys.specs.KeysOf.{keys_of}
 use Rattle.svd_keys.specs.WrittenNames.{is_reserved_name}
 
@@ -39,9 +40,9 @@ places_of keys =
 abbrev pub with_keys : Keys → Forest Step Key → RowTree
 with_keys keys below = record { keys = stated (places_of keys); below = below }
 
--- the elements in the first element of that name, side by side
-unfoldable pub inside : List ℕ → Tree → Elements
-inside name tree = elements_of (child name tree)
+-- the elements in the first container of that kind in an element, side by side
+unfoldable pub inside : Container → Tree → Elements
+inside container tree = elements_of (first (Holds container) tree)
   where
     elements_of : Option Tree → Elements
     elements_of None = none
@@ -69,7 +70,7 @@ labelled (Some name) tree = (name, tree) ∷ []
 -- an enumerated value with its name
 unfoldable pub value_at : Tree → List (List ℕ × RowTree)
 value_at tree =
-    if has_name (container_name container.Variant) tree
+    if has_role (Holds container.Variant) tree
     then labelled (keys_of container.Variant tree).label (with_keys (keys_of container.Variant tree) leaf) else []
 
 -- the enumerated values in a set, numbered by their places
@@ -79,7 +80,7 @@ values_in tree = numbered value 0 (flat_map value_at (members tree.1))
 -- a set of enumerated values with its name, which may be empty
 unfoldable pub set_at : Tree → List (List ℕ × RowTree)
 set_at tree =
-    if has_name (container_name container.ValueSet) tree
+    if has_role (Holds container.ValueSet) tree
     then (unwrap_or (keys_of container.ValueSet tree).name [], with_keys (keys_of container.ValueSet tree) (values_in tree)) ∷ [] else []
 
 -- the sets in a field, numbered by their places
@@ -89,12 +90,12 @@ sets_in tree = numbered set 0 (flat_map set_at (members tree.1))
 -- a field
 unfoldable pub field_at : Tree → List (Step × RowTree)
 field_at tree =
-    if has_name (container_name container.Field) tree
+    if has_role (Holds container.Field) tree
     then unreserved (keys_of container.Field tree).name (with_keys (keys_of container.Field tree) (sets_in tree)) else []
 
 -- the fields of a register
 unfoldable pub fields_in : Tree → List (Step × RowTree)
-fields_in tree = flat_map field_at (members (inside (container_name container.Fields) tree))
+fields_in tree = flat_map field_at (members (inside container.Fields tree))
 
 -- a register
 unfoldable pub register_at : Tree → List (Step × RowTree)
@@ -111,8 +112,8 @@ cluster_at tree children =
 -- a register, or a cluster of these children
 unfoldable pub child_at : Tree → List (Step × RowTree) → List (Step × RowTree)
 child_at tree children =
-    if has_name (container_name container.Cluster) tree then cluster_at tree children
-    else (if has_name (container_name container.Register) tree then register_at tree else [])
+    if has_role (Holds container.Cluster) tree then cluster_at tree children
+    else (if has_role (Holds container.Register) tree then register_at tree else [])
 
 -- the registers and clusters among elements
 unfoldable pub children_in : Elements → List (Step × RowTree)
@@ -122,13 +123,13 @@ children_in (element head children siblings) = child_at (head, children) (childr
 -- a peripheral
 unfoldable pub peripheral_at : Tree → List (Step × RowTree)
 peripheral_at tree =
-    if has_name (container_name container.Peripheral) tree
+    if has_role (Holds container.Peripheral) tree
     then placed peripheral (keys_of container.Peripheral tree).name (keys_of container.Peripheral tree).base
-    (with_keys (keys_of container.Peripheral tree) (siblings (children_in (inside (container_name container.Registers) tree)))) else []
+    (with_keys (keys_of container.Peripheral tree) (siblings (children_in (inside container.Registers tree)))) else []
 
 -- the peripherals of a device
 unfoldable pub peripherals_in : Tree → List (Step × RowTree)
-peripherals_in tree = flat_map peripheral_at (members (inside (container_name container.Peripherals) tree))
+peripherals_in tree = flat_map peripheral_at (members (inside container.Peripherals tree))
 
 -- a device
 unfoldable pub described_tree : Tree → RowTree

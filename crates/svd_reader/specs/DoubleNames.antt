@@ -7,7 +7,6 @@ use Rattle.pac_base.specs.declared.span.Span.{Span}
 use Rattle.svd_schema.specs.declared.container.Container.{Container}
 use Rattle.svd_schema.specs.declared.roles.Role.{Role}
 use Rattle.svd_schema.specs.declared.roles.Role.TheVariants.{Holds}
-use Rattle.svd_schema.specs.Table.{role_of}
 use Rattle.svd_keys.specs.declared.fault.PlacedFault.{PlacedFault}
 use Rattle.svd_keys.specs.declared.fault.Fault.TheVariants.{DoubleName}
 use Rattle.svd_keys.specs.Children.{Tree}
@@ -19,8 +18,8 @@ name_by (Some (Holds inner)) tree = sibling_name inner tree
 name_by _ tree = None
 
 -- the name by which an element in a container is told from its siblings there
-unfoldable pub name_in : Container → Tree → Option (List ℕ)
-name_in container tree = name_by (role_of container tree.0.name) tree
+unfoldable pub name_in : Tree → Option (List ℕ)
+name_in tree = name_by tree.0.role tree
 
 -- the two have one name
 abbrev pub same_name : Option (List ℕ) → Option (List ℕ) → Bool
@@ -37,16 +36,16 @@ where_again true span = again span
 where_again false span = []
 
 -- an element behind others of the container, one of which has its name
-unfoldable pub double_name : Container → List Tree → Tree → List PlacedFault
-double_name container before tree =
-    where_again (list_any (λ other. same_name (name_in container tree) (name_in container other)) before) (written_span tree)
+unfoldable pub double_name : List Tree → Tree → List PlacedFault
+double_name before tree =
+    where_again (list_any (λ other. same_name (name_in tree) (name_in other)) before) (written_span tree)
 
 -- of the elements in a container, behind some, each whose name stood before
-unfoldable pub double_names_behind : Container → List Tree → List Tree → List PlacedFault
-double_names_behind container before [] = []
-double_names_behind container before (tree ∷ trees) =
-    double_name container before tree ++ double_names_behind container (before ++ tree ∷ []) trees
+unfoldable pub double_names_behind : List Tree → List Tree → List PlacedFault
+double_names_behind before [] = []
+double_names_behind before (tree ∷ trees) =
+    double_name before tree ++ double_names_behind (before ++ tree ∷ []) trees
 
 -- each element in a container whose name stood before
-unfoldable pub double_names : Container → List Tree → List PlacedFault
-double_names container trees = double_names_behind container [] trees
+unfoldable pub double_names : List Tree → List PlacedFault
+double_names trees = double_names_behind [] trees

@@ -4,7 +4,6 @@ use Rattle.std.specs.Prelude.{List, [], ◌++◌, Option, Some}
 use Rattle.svd_schema.specs.declared.container.Container.{Container}
 use Rattle.svd_schema.specs.declared.roles.Role.{Role}
 use Rattle.svd_schema.specs.declared.roles.Role.TheVariants.{Holds}
-use Rattle.svd_schema.specs.Table.{role_of}
 use Rattle.svd_text.specs.Tree.{Elements, none, element}
 use Rattle.svd_keys.specs.declared.fault.PlacedFault.{PlacedFault}
 use Rattle.svd_keys.specs.Children.{Tree, members}
@@ -13,15 +12,15 @@ use Rattle.svd_reader.specs.DoubleNames.{double_names}
 
 -- of an element that is a container, where `below` are the faults of the containers in it, by what it is
 abbrev pub faults_by : Option Role → Tree → (Container → List PlacedFault) → List PlacedFault
-faults_by (Some (Holds inner)) tree below = own_faults inner tree ++ (double_names inner (members tree.1) ++ below inner)
+faults_by (Some (Holds inner)) tree below = own_faults inner tree ++ (double_names (members tree.1) ++ below inner)
 faults_by _ tree below = []
 
 -- of the containers among the elements in a container
-unfoldable pub faults_in : Container → Elements → List PlacedFault
-faults_in container none = []
-faults_in container (element head children siblings) =
-    faults_by (role_of container head.name) (head, children) (λ inner. faults_in inner children) ++ faults_in container siblings
+unfoldable pub faults_in : Elements → List PlacedFault
+faults_in none = []
+faults_in (element head children siblings) =
+    faults_by head.role (head, children) (λ inner. faults_in children) ++ faults_in siblings
 
 -- of an element that is this container
 unfoldable pub faults_of : Container → Tree → List PlacedFault
-faults_of container tree = own_faults container tree ++ (double_names container (members tree.1) ++ faults_in container tree.1)
+faults_of container tree = own_faults container tree ++ (double_names (members tree.1) ++ faults_in tree.1)

@@ -10,7 +10,6 @@ use Rattle.indexmap.specs.IndexSet.{IndexSet}
 use Rattle.svd_schema.specs.declared.container.Container.{Container}
 use Rattle.svd_schema.specs.declared.roles.Role.{Role}
 use Rattle.svd_schema.specs.declared.roles.Role.TheVariants.{Holds}
-use Rattle.svd_schema.specs.Table.{role_of}
 use Rattle.svd_model.specs.Steps.{Step, same_key}
 use Rattle.svd_rows.specs.Elements.{IsDistinct}
 use Rattle.svd_rows.specs.Forest.{siblings}
@@ -21,8 +20,8 @@ use Rattle.svd_reader.specs.DescribedTree.{RowTree, child_at, children_in}
 use Rattle.svd_reader.specs.Faults.{faults_by, faults_in}
 
 -- the faults of an element in a container, where it is a container itself
-unfoldable pub held_faults : Container → Tree → List PlacedFault
-held_faults container tree = faults_by (role_of container tree.0.name) tree (λ inner. faults_in inner tree.1)
+unfoldable pub held_faults : Tree → List PlacedFault
+held_faults tree = faults_by tree.0.role tree (λ inner. faults_in tree.1)
 
 -- a register or cluster
 unfoldable pub child_of : Tree → List (Step × RowTree)

@@ -12,7 +12,6 @@ use indexmap::IndexSet;
 use pac_base::NoMemory;
 use std::alloc::Global;
 use svd_keys::{Fault, PlacedFault, Written, earlier, sibling_name, written_name};
-use svd_schema::Container;
 use svd_text::Element;
 
 fn text_of<'e>(name: Option<Written<'e>>) -> Option<&'e [u8]>
@@ -25,10 +24,10 @@ fn text_of<'e>(name: Option<Written<'e>>) -> Option<&'e [u8]>
 }
 
 // The name by which an element in a container is told from its siblings there.
-fn name_in<'e>(container: Container, element: &'e Element) -> Option<&'e [u8]>
-    ensures { option_map (λ name. name.now) result ≡ name_in container (element_of element.now) }
+fn name_in<'e>(element: &'e Element) -> Option<&'e [u8]>
+    ensures { option_map (λ name. name.now) result ≡ name_in (element_of element.now) }
 {
-    match held(container, element) {
+    match held(element) {
         Some(inner) => text_of(sibling_name(inner, element)),
         None => None,
     }
@@ -68,15 +67,14 @@ fn fault_where(before: bool, element: &Element) -> Option<PlacedFault>
 /// The first of the elements in a container whose name a sibling before it has.
 pub fn double_names(
     alloc: Global,
-    container: Container,
     children: &[Element],
 ) -> Result<Option<PlacedFault>, NoMemory>
-    ensures { IfOk result (λ found. found ≡ least (double_names container (map element_of children.now))) }
+    ensures { IfOk result (λ found. found ≡ least (double_names (map element_of children.now))) }
 {
     let mut seen = IndexSet::new(alloc);
     let mut fault = None;
     for child in children {
-        let before = is_kept(&mut seen, name_in(container, child))?;
+        let before = is_kept(&mut seen, name_in(child))?;
         fault = earlier(fault, fault_where(before, child));
     }
     Ok(fault)

@@ -4,7 +4,7 @@ ghost use Rattle.svd_reader.specs.DescribedTree.{field_at};
 ghost use Rattle.svd_reader.specs.Walk.{told, Makes};
 ghost use Rattle.svd_text.specs.Views.{element_of};
 
-use crate::element::is_named;
+use crate::element::is_held;
 use crate::kept::keep_under;
 use crate::values::sets;
 use indexmap::IndexMap;
@@ -19,7 +19,7 @@ use svd_text::Element;
 fn field(alloc: Global, element: &Element) -> Result<Option<(Sibling, Field)>, NoMemory>
     ensures { IfOk result (λ made. told field_under made ≡ field_at (element_of element.now)) }
 {
-    if !is_named(element, Container::Field) {
+    if !is_held(element, Container::Field) {
         return Ok(None);
     }
     let keys = own_keys(alloc, Container::Field, element)?;

@@ -25,8 +25,8 @@ pub fn first_fault(
 {
     let stated = read_keys(alloc, container, element)?;
     let children = element.children.as_slice();
-    let names = double_names(alloc, container, children)?;
-    let inside = first_inside(alloc, container, children)?;
+    let names = double_names(alloc, children)?;
+    let inside = first_inside(alloc, children)?;
     Ok(earlier(stated.fault, earlier(names, inside)))
 }
 
@@ -34,14 +34,13 @@ pub fn first_fault(
 #[cycle(faults)]
 fn first_inside(
     alloc: Global,
-    container: Container,
     children: &[Element],
 ) -> Result<Option<PlacedFault>, NoMemory>
-    ensures { IfOk result (λ found. found ≡ least (flat_map (held_faults container) (map element_of children.now))) }
+    ensures { IfOk result (λ found. found ≡ least (flat_map held_faults (map element_of children.now))) }
 {
     let mut fault = None;
     for child in children {
-        fault = earlier(fault, first_held(alloc, container, child)?);
+        fault = earlier(fault, first_held(alloc, child)?);
     }
     Ok(fault)
 }
@@ -50,12 +49,11 @@ fn first_inside(
 #[cycle(faults)]
 fn first_held(
     alloc: Global,
-    container: Container,
     element: &Element,
 ) -> Result<Option<PlacedFault>, NoMemory>
-    ensures { IfOk result (λ found. found ≡ least (held_faults container (element_of element.now))) }
+    ensures { IfOk result (λ found. found ≡ least (held_faults (element_of element.now))) }
 {
-    match held(container, element) {
+    match held(element) {
         Some(inner) => first_fault(alloc, inner, element),
         None => Ok(None),
     }

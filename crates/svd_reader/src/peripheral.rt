@@ -6,7 +6,7 @@ ghost use Rattle.svd_reader.specs.Walk.{told, Makes};
 ghost use Rattle.svd_rows.specs.Elements.{IsDistinct};
 ghost use Rattle.svd_text.specs.Views.{element_of};
 
-use crate::element::{inside, is_named};
+use crate::element::{inside, is_held};
 use crate::kept::keep_under;
 use crate::register::children;
 use indexmap::IndexMap;
@@ -21,7 +21,7 @@ use svd_text::Element;
 fn peripheral(alloc: Global, element: &Element) -> Result<Option<(Sibling, Peripheral)>, NoMemory>
     ensures { IfOk result (λ made. Makes (told peripheral_under made) (peripheral_at (element_of element.now))) }
 {
-    if !is_named(element, Container::Peripheral) {
+    if !is_held(element, Container::Peripheral) {
         return Ok(None);
     }
     let keys = own_keys(alloc, Container::Peripheral, element)?;

@@ -4,7 +4,7 @@ ghost use Rattle.svd_reader.specs.DescribedTree.{register_at, cluster_at, childr
 ghost use Rattle.svd_reader.specs.Walk.{told, child_of, Makes};
 ghost use Rattle.svd_text.specs.Views.{element_of};
 
-use crate::element::{inside, is_named};
+use crate::element::{inside, is_held};
 use crate::field::fields;
 use crate::kept::keep;
 use pac_base::NoMemory;
@@ -96,10 +96,10 @@ fn cluster(alloc: Global, element: &Element) -> Result<Option<Item>, NoMemory>
 fn child(alloc: Global, element: &Element) -> Result<Option<Item>, NoMemory>
     ensures { IfOk result (λ made. Makes (told item_under made) (child_of (element_of element.now))) }
 {
-    if is_named(element, Container::Cluster) {
+    if is_held(element, Container::Cluster) {
         return cluster(alloc, element);
     }
-    if is_named(element, Container::Register) {
+    if is_held(element, Container::Register) {
         return register(alloc, element);
     }
     Ok(None)

@@ -4,7 +4,7 @@ ghost use Rattle.svd_reader.specs.DescribedTree.{value_at, set_at};
 ghost use Rattle.svd_reader.specs.Walk.{told};
 ghost use Rattle.svd_text.specs.Views.{element_of};
 
-use crate::element::is_named;
+use crate::element::is_held;
 use crate::kept::keep;
 use pac_base::NoMemory;
 use std::alloc::Global;
@@ -17,7 +17,7 @@ use svd_text::Element;
 fn variant(alloc: Global, element: &Element) -> Result<Option<Variant>, NoMemory>
     ensures { IfOk result (λ made. told value_tree made ≡ value_at (element_of element.now)) }
 {
-    if !is_named(element, Container::Variant) {
+    if !is_held(element, Container::Variant) {
         return Ok(None);
     }
     let keys = own_keys(alloc, Container::Variant, element)?;
@@ -43,7 +43,7 @@ fn variants(alloc: Global, children: &[Element]) -> Result<Vec<Variant>, NoMemor
 fn set(alloc: Global, element: &Element) -> Result<Option<Values>, NoMemory>
     ensures { IfOk result (λ made. told set_tree made ≡ set_at (element_of element.now)) }
 {
-    if !is_named(element, Container::ValueSet) {
+    if !is_held(element, Container::ValueSet) {
         return Ok(None);
     }
     let keys = own_keys(alloc, Container::ValueSet, element)?;

@@ -1,10 +1,2 @@
 pub mod Tree
 pub mod Views
-pub mod Contents
-pub mod ElementText
-pub mod TextElements
-pub mod Nesting
-pub mod Machine
-pub mod Reading
-pub mod Frames
-pub mod Answers

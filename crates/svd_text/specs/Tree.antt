@@ -1,10 +1,12 @@
 -- The tree of a text's elements: what each says with its places, apart from where its bytes are kept.
 use Rattle.std.specs.Prelude.{ℕ, List, [], ◌∷◌, Option}
+use Rattle.svd_schema.specs.declared.roles.Role.{Role}
 
 -- An element without the elements in it. Places are bytes from the beginning of the text. `inside` is what stands between its tags, as it
 -- stands; `said` is its text without comments and elements, with references replaced; `source` is the value of `derivedFrom` with its place.
 pub record Head : Type 0 where
   pub name : List ℕ
+  pub role : Option Role
   pub name_at : ℕ
   pub source : Option (List ℕ × ℕ)
   pub inside_at : ℕ

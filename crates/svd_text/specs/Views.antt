@@ -17,7 +17,7 @@ source_of source = (source.value.now, source.at)
 
 -- an element whose elements are seen already
 abbrev pub element_layer : Element-F (Head × Elements) → (Head × Elements)
-element_layer element = (record { name = element.name.now; name_at = element.name_at; source = option_map source_of element.source; inside_at = element.inside_at; inside = element.inside.now; said = said_of element.said; ends_at = element.ends_at }, side_by_side element.children.items)
+element_layer element = (record { name = element.name.now; role = element.role; name_at = element.name_at; source = option_map source_of element.source; inside_at = element.inside_at; inside = element.inside.now; said = said_of element.said; ends_at = element.ends_at }, side_by_side element.children.items)
 
 -- what an element says, and the elements in it
 unfoldable pub element_of : Element → (Head × Elements)

@@ -1,3 +1,4 @@
+use svd_schema::Role;
 use crate::said::Said;
 
 /// An element of a description's text. Its places are bytes from the beginning of the text, from 0.
@@ -6,6 +7,8 @@ use crate::said::Said;
 pub struct Element<'a> {
     /// Its name.
     pub name: &'a [u8],
+    /// What it is in the container that it stands in; none where it may not stand there.
+    pub role: Option<Role>,
     /// Where its name begins in its start tag.
     pub name_at: u32,
     /// The value of its attribute `derivedFrom`.

@@ -13,8 +13,8 @@ use Rattle.svd_keys.proofs.group.read_dim.Goals as goal
 pub returns : goal.returns
 unfolding dim_of dim_faults
 returns c = (
-  (λ i. record { count = c.number_key-count.ensures.value_is i; step = c.number_key-step.ensures.value_is i; index = c.in_ok-index.ensures.value_is i }),
+  (λ i. record { count = c.read_key-count.ensures.value_is i; step = c.read_key-step.ensures.value_is i; index = c.in_ok-index.ensures.value_is i }),
   c.earliest-fault.ensures
-      ∙ (λ i. earliest (c.number_key-count.ensures.fault_is i ∷ c.number_key-step.ensures.fault_is i ∷ c.in_ok-index.ensures.fault_is i ∷ []))
+      ∙ (λ i. earliest (c.read_key-count.ensures.fault_is i ∷ c.read_key-step.ensures.fault_is i ∷ c.in_ok-index.ensures.fault_is i ∷ []))
       ∙ earliest-gather (number_faults key.Dim (element_of c.args.element.now) ∷ number_faults key.DimIncrement (element_of c.args.element.now) ∷ key_faults index_of bad.Index key.DimIndex (element_of c.args.element.now) ∷ []),
 )

@@ -13,5 +13,5 @@ pub returns-clause-fault : goal.returns-clause-fault
 unfolding effect_faults
 returns-clause-fault c =
     c.earliest.ensures
-    ∙ (λ i. earliest (c.kind_key-kind.ensures.fault_is i ∷ c.action_key-action.ensures.fault_is i ∷ []))
+    ∙ (λ i. earliest (c.read_key-kind.ensures.fault_is i ∷ c.read_key-action.ensures.fault_is i ∷ []))
     ∙ earliest-gather (key_faults kind_of bad.Word key.ModifiedWriteValues (element_of c.args.element.now) ∷ key_faults action_of bad.Word key.ReadAction (element_of c.args.element.now) ∷ [])

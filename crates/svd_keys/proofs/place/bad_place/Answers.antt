@@ -7,10 +7,10 @@ use Rattle.svd_keys.proofs.place.bad_place.Goals as goal
 
 pub returns-in-None : goal.returns-in-None
 unfolding bad_place least
-returns-in-None c = ap (λ found. least (bad_place c.args.bad found)) (c.in-None.ensures ∙ ap (λ name. child name (element_of c.args.element.now)) c.name.ensures)
+returns-in-None c = ap (λ found. least (bad_place c.args.bad found)) c.in-None.ensures
 
 pub returns-in-Some : goal.returns-in-Some
 unfolding bad_place
 returns-in-Some c =
     c.bad_where.ensures
-    ∙ ap (λ found. least (bad_place c.args.bad found)) (c.in-Some.ensures ∙ ap (λ name. child name (element_of c.args.element.now)) c.name.ensures)
+    ∙ ap (λ found. least (bad_place c.args.bad found)) c.in-Some.ensures

@@ -14,7 +14,7 @@ unfolding place_of
 returns-clause-value c =
     c.place_with.ensures
     ∙ (λ i.
-    place_with (c.range_key-range.ensures.value_is i) (c.number_key-low.ensures.value_is i) (c.number_key-high.ensures.value_is i) (c.number_key-offset.ensures.value_is i) (c.number_key-width.ensures.value_is i)
+    place_with (c.read_key-range.ensures.value_is i) (c.read_key-low.ensures.value_is i) (c.read_key-high.ensures.value_is i) (c.read_key-offset.ensures.value_is i) (c.read_key-width.ensures.value_is i)
     (element_of c.args.element.now))
 
 pub returns-clause-fault : goal.returns-clause-fault
@@ -23,13 +23,13 @@ returns-clause-fault c =
     let tree = element_of c.args.element.now in
     let form =
     c.form_fault-form.ensures
-    ∙ (λ i. least (form_faults (c.number_key-low.ensures.value_is i) (c.number_key-high.ensures.value_is i) (c.number_key-width.ensures.value_is i) tree)) in
+    ∙ (λ i. least (form_faults (c.read_key-low.ensures.value_is i) (c.read_key-high.ensures.value_is i) (c.read_key-width.ensures.value_is i) tree)) in
     c.earliest.ensures
     ∙ (λ i.
     earliest
     (
-    c.range_key-range.ensures.fault_is i ∷ c.number_key-low.ensures.fault_is i ∷ c.number_key-high.ensures.fault_is i ∷ c.number_key-offset.ensures.fault_is i
-    ∷ c.number_key-width.ensures.fault_is i
+    c.read_key-range.ensures.fault_is i ∷ c.read_key-low.ensures.fault_is i ∷ c.read_key-high.ensures.fault_is i ∷ c.read_key-offset.ensures.fault_is i
+    ∷ c.read_key-width.ensures.fault_is i
     ∷ form i
     ∷ []
     ))

@@ -1,21 +1,13 @@
-use Rattle.std.proofs.Common.{ap, ◌∙◌, ◌++◌}
-use Rattle.svd_schema.specs.Names.{key_name}
+use Rattle.std.proofs.Common.{ap, ◌∙◌}
 use Rattle.svd_text.specs.Views.{element_of}
-use Rattle.svd_keys.specs.declared.fault.BadKind.TheVariants.{Index}
-use Rattle.svd_keys.specs.Children.{child, strays, when}
-use Rattle.svd_keys.specs.Earliest.{least}
 use Rattle.svd_keys.specs.Forms.{index_of}
-use Rattle.svd_keys.specs.Values.{bad_value}
-use Rattle.svd_keys.proofs.KeyReads.{absent, none_is, present}
+use Rattle.svd_keys.proofs.KeyReads.{absent, present}
 use Rattle.svd_keys.proofs.read.index_key.Goals as goal
 
 pub returns-in-None : goal.returns-in-None
-returns-in-None c =
-    absent index_of Index c.args.key (element_of c.args.element.now) (c.in-None.ensures ∙ ap (λ name. child name (element_of c.args.element.now)) c.name.ensures)
+returns-in-None c = absent _ _ c.args.key (element_of c.args.element.now) c.in-None.ensures
 
 pub returns-in_ok-value-in-Some : goal.returns-in_ok-value-in-Some
 returns-in_ok-value-in-Some c =
-    present index_of Index c.args.key (element_of c.args.element.now) (element_of c.in-Some.found.now) c.in_ok-value-in-Some.value c.key_fault-fault.result
-    (c.in-Some.ensures ∙ ap (λ name. child name (element_of c.args.element.now)) c.name.ensures)
-    (c.in_ok-value-in-Some.ensures ∙ ap index_of c.value_text.ensures)
-    (c.key_fault-fault.ensures ∙ ap (λ bad. least (strays (key_name c.args.key) (element_of c.args.element.now) ++ when bad (bad_value Index (element_of c.in-Some.found.now)))) (none_is c.in_ok-value-in-Some.value c.is_none.result c.is_none.ensures))
+    present _ _ c.args.key (element_of c.args.element.now) (element_of c.in-Some.found.now) c.in_ok-value-in-Some.value c.is_none.result c.bad_where-fault.result
+    c.in-Some.ensures (c.in_ok-value-in-Some.ensures ∙ ap index_of c.value_text.ensures) c.is_none.ensures c.bad_where-fault.ensures

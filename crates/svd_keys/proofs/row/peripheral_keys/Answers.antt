@@ -1,9 +1,6 @@
 use Rattle.std.proofs.Common.{ap, ◌∙◌, ◌∷◌, []}
 use Rattle.svd_schema.specs.declared.key.Key.TheVariants as key
-use Rattle.svd_schema.specs.declared.container.Container.TheVariants as container
-use Rattle.svd_schema.specs.Names.{container_name}
 use Rattle.svd_text.specs.Views.{element_of}
-use Rattle.svd_keys.specs.Children.{double_of}
 use Rattle.svd_keys.specs.Earliest.{earliest, least}
 use Rattle.svd_keys.specs.KeysOf.{keys_of}
 use Rattle.svd_keys.specs.OwnFaults.{number_faults, property_faults, named_faults, row_faults}
@@ -13,8 +10,8 @@ use Rattle.svd_keys.proofs.row.peripheral_keys.Goals as goal
 pub returns : goal.returns
 unfolding keys_of row_faults
 returns c = (
-  (λ i. record { name = c.in_ok-named.ensures.0 i; label = (c.no_keys.ensures i).label; derived = c.in_ok-named.ensures.1 i; dim = c.in_ok-named.ensures.2 i; base = c.number_key-base.ensures.value_is i; offset = (c.no_keys.ensures i).offset; alternate = (c.no_keys.ensures i).alternate; group = (c.no_keys.ensures i).group; props = c.read_props-props.ensures.value i; kind = (c.no_keys.ensures i).kind; action = (c.no_keys.ensures i).action; place = (c.no_keys.ensures i).place; usage = (c.no_keys.ensures i).usage; value = (c.no_keys.ensures i).value; is_default = (c.no_keys.ensures i).is_default }),
+  (λ i. record { name = c.in_ok-named.ensures.0 i; label = (c.no_keys.ensures i).label; derived = c.in_ok-named.ensures.1 i; dim = c.in_ok-named.ensures.2 i; base = c.read_key-base.ensures.value_is i; offset = (c.no_keys.ensures i).offset; alternate = (c.no_keys.ensures i).alternate; group = (c.no_keys.ensures i).group; props = c.read_props-props.ensures.value i; kind = (c.no_keys.ensures i).kind; action = (c.no_keys.ensures i).action; place = (c.no_keys.ensures i).place; usage = (c.no_keys.ensures i).usage; value = (c.no_keys.ensures i).value; is_default = (c.no_keys.ensures i).is_default }),
   c.earliest-fault.ensures
-      ∙ (λ i. earliest (c.in_ok-named.ensures.3 i ∷ c.number_key-base.ensures.fault_is i ∷ c.read_props-props.ensures.fault i ∷ (c.double_of-again.ensures ∙ ap (λ name. least (double_of name (element_of c.args.element.now))) c.name.ensures) i ∷ []))
-      ∙ earliest-gather (named_faults (element_of c.args.element.now) ∷ number_faults key.BaseAddress (element_of c.args.element.now) ∷ property_faults (element_of c.args.element.now) ∷ double_of (container_name container.Registers) (element_of c.args.element.now) ∷ []),
+      ∙ (λ i. earliest (c.in_ok-named.ensures.3 i ∷ c.read_key-base.ensures.fault_is i ∷ c.read_props-props.ensures.fault i ∷ []))
+      ∙ earliest-gather (named_faults (element_of c.args.element.now) ∷ number_faults key.BaseAddress (element_of c.args.element.now) ∷ property_faults (element_of c.args.element.now) ∷ []),
 )

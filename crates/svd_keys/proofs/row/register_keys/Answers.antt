@@ -1,9 +1,6 @@
 use Rattle.std.proofs.Common.{ap, ◌∙◌, ◌∷◌, []}
 use Rattle.svd_schema.specs.declared.key.Key.TheVariants as key
-use Rattle.svd_schema.specs.declared.container.Container.TheVariants as container
-use Rattle.svd_schema.specs.Names.{container_name}
 use Rattle.svd_text.specs.Views.{element_of}
-use Rattle.svd_keys.specs.Children.{double_of}
 use Rattle.svd_keys.specs.Earliest.{earliest, least}
 use Rattle.svd_keys.specs.KeysOf.{keys_of}
 use Rattle.svd_keys.specs.OwnFaults.{number_faults, name_faults, property_faults, effect_faults, named_faults, row_faults}
@@ -13,8 +10,8 @@ use Rattle.svd_keys.proofs.row.register_keys.Goals as goal
 pub returns : goal.returns
 unfolding keys_of row_faults
 returns c = (
-  (λ i. record { name = c.in_ok-named.ensures.0 i; label = (c.no_keys.ensures i).label; derived = c.in_ok-named.ensures.1 i; dim = c.in_ok-named.ensures.2 i; base = (c.no_keys.ensures i).base; offset = c.number_key-offset.ensures.value_is i; alternate = c.in_ok-alternate.ensures.value_is i; group = c.in_ok-group.ensures.value_is i; props = c.read_props-props.ensures.value i; kind = c.read_effects-effects.ensures.kind i; action = c.read_effects-effects.ensures.action i; place = (c.no_keys.ensures i).place; usage = (c.no_keys.ensures i).usage; value = (c.no_keys.ensures i).value; is_default = (c.no_keys.ensures i).is_default }),
+  (λ i. record { name = c.in_ok-named.ensures.0 i; label = (c.no_keys.ensures i).label; derived = c.in_ok-named.ensures.1 i; dim = c.in_ok-named.ensures.2 i; base = (c.no_keys.ensures i).base; offset = c.read_key-offset.ensures.value_is i; alternate = c.in_ok-alternate.ensures.value_is i; group = c.in_ok-group.ensures.value_is i; props = c.read_props-props.ensures.value i; kind = c.read_effects-effects.ensures.kind i; action = c.read_effects-effects.ensures.action i; place = (c.no_keys.ensures i).place; usage = (c.no_keys.ensures i).usage; value = (c.no_keys.ensures i).value; is_default = (c.no_keys.ensures i).is_default }),
   c.earliest-fault.ensures
-      ∙ (λ i. earliest (c.in_ok-named.ensures.3 i ∷ c.number_key-offset.ensures.fault_is i ∷ c.in_ok-group.ensures.fault_is i ∷ c.in_ok-alternate.ensures.fault_is i ∷ c.read_props-props.ensures.fault i ∷ c.read_effects-effects.ensures.fault i ∷ (c.double_of-again.ensures ∙ ap (λ name. least (double_of name (element_of c.args.element.now))) c.name.ensures) i ∷ []))
-      ∙ earliest-gather (named_faults (element_of c.args.element.now) ∷ number_faults key.AddressOffset (element_of c.args.element.now) ∷ name_faults key.AlternateGroup (element_of c.args.element.now) ∷ name_faults key.AlternateRegister (element_of c.args.element.now) ∷ property_faults (element_of c.args.element.now) ∷ effect_faults (element_of c.args.element.now) ∷ double_of (container_name container.Fields) (element_of c.args.element.now) ∷ []),
+      ∙ (λ i. earliest (c.in_ok-named.ensures.3 i ∷ c.read_key-offset.ensures.fault_is i ∷ c.in_ok-group.ensures.fault_is i ∷ c.in_ok-alternate.ensures.fault_is i ∷ c.read_props-props.ensures.fault i ∷ c.read_effects-effects.ensures.fault i ∷ []))
+      ∙ earliest-gather (named_faults (element_of c.args.element.now) ∷ number_faults key.AddressOffset (element_of c.args.element.now) ∷ name_faults key.AlternateGroup (element_of c.args.element.now) ∷ name_faults key.AlternateRegister (element_of c.args.element.now) ∷ property_faults (element_of c.args.element.now) ∷ effect_faults (element_of c.args.element.now) ∷ []),
 )

@@ -18,9 +18,9 @@ loop-child-init c = record {
 
 pub loop-child-preserved : goal.loop-child-preserved
 loop-child-preserved c = record {
-  names = names_go_on c.args.container c.args.children.now c.loop-child.child-index c.child-item.result (names_of c.loop-child.seen) (names_of c.is_kept.new.seen) (lent c.name_in.result) c.loop-child-test.true c.child-item.is c.loop-child.invariant.names c.name_in.ensures c.in_ok-before.ensures.kept;
-  faults = faults_go_on c.args.container c.args.children.now c.loop-child.child-index c.child-item.result (names_of c.loop-child.seen) (lent c.name_in.result) c.in_ok-before.before c.earlier-fault.result c.loop-child.fault c.fault_where.result (least (double_names c.args.container (map element_of c.args.children.now))) c.loop-child-test.true c.child-item.is c.loop-child.invariant.names c.name_in.ensures c.in_ok-before.ensures.before c.earlier-fault.ensures c.fault_where.ensures c.loop-child.invariant.faults;
+  names = names_go_on c.args.children.now c.loop-child.child-index c.child-item.result (names_of c.loop-child.seen) (names_of c.is_kept.new.seen) (lent c.name_in.result) c.loop-child-test.true c.child-item.is c.loop-child.invariant.names c.name_in.ensures c.in_ok-before.ensures.kept;
+  faults = faults_go_on c.args.children.now c.loop-child.child-index c.child-item.result (names_of c.loop-child.seen) (lent c.name_in.result) c.in_ok-before.before c.earlier-fault.result c.loop-child.fault c.fault_where.result (least (double_names (map element_of c.args.children.now))) c.loop-child-test.true c.child-item.is c.loop-child.invariant.names c.name_in.ensures c.in_ok-before.ensures.before c.earlier-fault.ensures c.fault_where.ensures c.loop-child.invariant.faults;
 }
 
 pub returns : goal.returns
-returns c = faults_end c.args.container c.args.children.now c.loop-child.child-index c.loop-child.fault (least (double_names c.args.container (map element_of c.args.children.now))) c.loop-child-test.false c.loop-child.invariant.faults
+returns c = faults_end c.args.children.now c.loop-child.child-index c.loop-child.fault (least (double_names (map element_of c.args.children.now))) c.loop-child-test.false c.loop-child.invariant.faults

@@ -9,6 +9,6 @@ use Rattle.svd_reader.proofs.double_names.double_names.Given as goal
 
 abbrev pub invariant-loop-child : goal.invariant-loop-child
 invariant-loop-child l = record {
-  names : AreNames l.container (passed l.children l.child-index) (names_of l.seen);
-  faults : earlier l.fault (least (double_names_behind l.container (passed l.children l.child-index) (left l.children l.child-index))) ≡ least (double_names l.container (map element_of l.children));
+  names : AreNames (passed l.children l.child-index) (names_of l.seen);
+  faults : earlier l.fault (least (double_names_behind (passed l.children l.child-index) (left l.children l.child-index))) ≡ least (double_names (map element_of l.children));
 }

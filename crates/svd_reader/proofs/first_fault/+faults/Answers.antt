@@ -14,19 +14,19 @@ first_fault-returns t c =
 
 pub first_held-returns-in-Some : goal.first_held-returns-in-Some
 first_held-returns-in-Some t c =
-    by_role c.args.container c.in-Some.inner (element_of c.args.element.now) c.first_fault.result (sym c.in-Some.is ∙ c.held.ensures) c.first_fault.ensures
+    by_role c.in-Some.inner (element_of c.args.element.now) c.first_fault.result (sym c.in-Some.is ∙ c.held.ensures) c.first_fault.ensures
 
 pub first_held-returns-in-None : goal.first_held-returns-in-None
-first_held-returns-in-None t c = held-none c.args.container (element_of c.args.element.now) (sym c.in-None.is ∙ c.held.ensures)
+first_held-returns-in-None t c = held-none (element_of c.args.element.now) (sym c.in-None.is ∙ c.held.ensures)
 
 pub first_inside-loop-child-init : goal.first_inside-loop-child-init
 first_inside-loop-child-init t c = begun _ _ refl
 
 pub first_inside-loop-child-preserved : goal.first_inside-loop-child-preserved
 first_inside-loop-child-preserved t c =
-    one_more c.args.container c.args.children.now c.loop-child.child-index c.child-item.result c.earlier-fault.result c.loop-child.fault c.in_ok-first_held.field-0 (least (flat_map (held_faults c.args.container) (map element_of c.args.children.now)))
+    one_more c.args.children.now c.loop-child.child-index c.child-item.result c.earlier-fault.result c.loop-child.fault c.in_ok-first_held.field-0 (least (flat_map held_faults (map element_of c.args.children.now)))
     c.loop-child-test.true c.child-item.is c.earlier-fault.ensures c.in_ok-first_held.ensures c.loop-child.invariant
 
 pub first_inside-returns : goal.first_inside-returns
 first_inside-returns t c =
-    nothing_left c.loop-child.fault (least (flat_map (held_faults c.args.container) (map element_of c.args.children.now))) _ (ap (flat_map (held_faults c.args.container)) (left-none c.args.children.now c.loop-child.child-index c.loop-child-test.false)) c.loop-child.invariant
+    nothing_left c.loop-child.fault (least (flat_map held_faults (map element_of c.args.children.now))) _ (ap (flat_map held_faults) (left-none c.args.children.now c.loop-child.child-index c.loop-child-test.false)) c.loop-child.invariant

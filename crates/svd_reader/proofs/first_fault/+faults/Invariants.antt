@@ -7,4 +7,4 @@ use Rattle.svd_reader.proofs.first_fault.+faults.Given as goal
 
 abbrev pub invariant-first_inside-loop-child : goal.invariant-first_inside-loop-child
 invariant-first_inside-loop-child l =
-    earlier l.fault (least (flat_map (held_faults l.container) (left l.children l.child-index))) ≡ least (flat_map (held_faults l.container) (map element_of l.children))
+    earlier l.fault (least (flat_map held_faults (left l.children l.child-index))) ≡ least (flat_map held_faults (map element_of l.children))

@@ -7,14 +7,14 @@ use Rattle.svd_reader.proofs.Apart.{part_apart, cluster-apart, same-made}
 use Rattle.svd_reader.proofs.Runs.{kept_more, kept_all}
 use Rattle.svd_reader.proofs.register.+children.Goals as goal
 
-pub child-returns-then-is_named : goal.child-returns-then-is_named
-child-returns-then-is_named t c = same-made c.cluster.result _ _ (cluster-child (element_of c.args.element.now) (sym c.is_named.ensures ∙ c.if-is_named.true)) c.cluster.ensures
+pub child-returns-then-is_held : goal.child-returns-then-is_held
+child-returns-then-is_held t c = same-made c.cluster.result _ _ (cluster-child (element_of c.args.element.now) (sym c.is_held.ensures ∙ c.if-is_held.true)) c.cluster.ensures
 
-pub child-returns-then-is_named-2 : goal.child-returns-then-is_named-2
-child-returns-then-is_named-2 t c = same-made c.register.result _ _ (register-child (element_of c.args.element.now) (sym c.is_named.ensures ∙ c.if-is_named.false) (sym c.is_named-2.ensures ∙ c.if-is_named-2.true)) c.register.ensures
+pub child-returns-then-is_held-2 : goal.child-returns-then-is_held-2
+child-returns-then-is_held-2 t c = same-made c.register.result _ _ (register-child (element_of c.args.element.now) (sym c.is_held.ensures ∙ c.if-is_held.false) (sym c.is_held-2.ensures ∙ c.if-is_held-2.true)) c.register.ensures
 
 pub child-returns : goal.child-returns
-child-returns t c = λ apart. other-child (element_of c.args.element.now) (sym c.is_named.ensures ∙ c.if-is_named.false) (sym c.is_named-2.ensures ∙ c.if-is_named-2.false)
+child-returns t c = λ apart. other-child (element_of c.args.element.now) (sym c.is_held.ensures ∙ c.if-is_held.false) (sym c.is_held-2.ensures ∙ c.if-is_held-2.false)
 
 pub children-loop-element-preserved : goal.children-loop-element-preserved
 children-loop-element-preserved t c = λ apart.
