@@ -1,7 +1,7 @@
 use pac_base::NoMemory;
 use std::alloc::Global;
 use std::test::Fail;
-use svd_values::{DimIndex, IndexFault, dim_index};
+use svd_values::{DimIndex, dim_index};
 
 // Texts of `dimIndex`: the last index that each gives, as text, behind its kind.
 const INDEXES: &[(&str, &str, &str)] = &[
@@ -24,10 +24,9 @@ const INDEXES: &[(&str, &str, &str)] = &[
 
 /// Whether a text gives an index of this kind, of which this is the last.
 fn has_last(alloc: Global, text: &str, kind: &str, last: &str) -> Result<bool, NoMemory> {
-    match dim_index(alloc, text.as_bytes()) {
-        Ok(index) => Ok(kind_of(&index) == kind && is_last(alloc, &index, last)?),
-        Err(IndexFault::NotAnIndex) => Ok(kind == "none"),
-        Err(IndexFault::Memory) => Err(NoMemory),
+    match dim_index(alloc, text.as_bytes())? {
+        Some(index) => Ok(kind_of(&index) == kind && is_last(alloc, &index, last)?),
+        None => Ok(kind == "none"),
     }
 }
 

@@ -1,5 +1,4 @@
 ghost use Rattle.std.specs.Prelude.{ℕ, ◌≡◌, ◌↔◌, Some};
-ghost use Rattle.svd_values.specs.Given.{number_given};
 ghost use Rattle.pac_sample.specs.Wanted.{AreNumbers, numbers_given};
 
 use svd_values::number;
@@ -20,18 +19,11 @@ pub fn number_and_count(number_word: &[u8], count_word: &[u8]) -> Option<(u64, u
 fn both(number_word: &[u8], count_word: &[u8]) -> Option<(u64, u64)>
     ensures { result ≡ numbers_given number_word.now count_word.now }
 {
-    let first = whole(number_word)?;
-    let count = whole(count_word)?;
+    let first = number(number_word)?;
+    let count = number(count_word)?;
     if 1 <= count && count <= MOST {
         Some((first, count))
     } else {
         None
     }
-}
-
-/// A whole number below 2^64.
-fn whole(text: &[u8]) -> Option<u64>
-    ensures { result ≡ number_given text.now }
-{
-    number(text)
 }

@@ -5,7 +5,6 @@ pub mod FromPlace
 pub mod Arms
 pub mod Coding
 pub mod Trimming
-pub mod Dots
 pub mod Placing
 pub mod Keys
 pub mod ListedTexts

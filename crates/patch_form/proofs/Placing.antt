@@ -1,6 +1,6 @@
 -- The first entry of a key, and the numbers of a place.
 use Rattle.std.proofs.Common.{◌≡◌, ◌<◌, ◌≤◌, ℕ, ◌+◌, Bool, true, false, List, ◌∷◌, ◌++◌, Option, Some, None, map, length, drop, get_or, refl, sym, ap, subst, ◌∙◌, arith}
-use Rattle.std.specs.Prelude.{◌↔◌, MatchBool, nat_le}
+use Rattle.std.specs.Prelude.{MatchBool, nat_le}
 use Rattle.std.specs.Str.{bytes_eq}
 use Rattle.std.proofs.lemmas.Bool.Decides.{nat_tests}
 use Rattle.std.proofs.lemmas.List.{drop_all}
@@ -17,7 +17,8 @@ use Rattle.patch_form.specs.Finding.{First, earlier_of}
 use Rattle.patch_form.specs.Parts.{scalar_of}
 use Rattle.patch_form.specs.Mappings.{name_marked}
 use Rattle.patch_form.proofs.Finding.{joined}
-use Rattle.patch_form.specs.Forms.{AreOrdered, IsNumberText, IsPositive, trimmed}
+use Rattle.patch_form.specs.Forms.{AreOrdered, IsPositive, trimmed}
+use Rattle.svd_values.specs.Forms.{number_of}
 
 abbrev pub at_from : List ℕ → List (ℕ × List ℕ × Node) → ℕ → At
 at_from key named i = at_key key (entries_of (map entry_under (drop i named)))
@@ -35,47 +36,38 @@ module _ (key : List ℕ) (named : List (ℕ × List ℕ × Node)) (i : ℕ) (en
 pub at-none : (key : List ℕ) (named : List (ℕ × List ℕ × Node)) (i : ℕ) → length named ≤ i → absent ≡ at_from key named i
 at-none key named i past = sym (ap (λ (rest : List (ℕ × List ℕ × Node)). at_key key (entries_of (map entry_under rest))) (drop_all i named past))
 
--- what a reading says of the numbers that a text spells
-abbrev pub Says : List ℕ → Option ℕ → Type 0
-Says text found = (value : ℕ) → (found ≡ Some value) ↔ IsNumberText text value
+no_value : (found : Option ℕ) (value : ℕ) → found ≡ None → found ≡ Some value → ⊥
+no_value found value none some = absurd cc
 
-no_value : (text : List ℕ) (found : Option ℕ) (value : ℕ) → Says text found → found ≡ None → IsNumberText text value → ⊥
-no_value text found value says none is = clash found value none ((says value).1 is)
-  where
-    clash : (f : Option ℕ) (v : ℕ) → f ≡ None → f ≡ Some v → ⊥
-    clash f v e d = absurd cc
+one_value : (found : Option ℕ) (one value : ℕ) → found ≡ Some one → found ≡ Some value → value ≡ one
+one_value found one value some is = cc
 
-one_value : (text : List ℕ) (found : Option ℕ) (one value : ℕ) → Says text found → found ≡ Some one → IsNumberText text value → value ≡ one
-one_value text found one value says some is =
-    let other : found ≡ Some value = (says value).1 is in
-    cc
+pub ordered-no_low : (low high : List ℕ) → number_of low ≡ None → AreOrdered low high
+ordered-no_low low high none = λ lsb msb first second. absurd (no_value (number_of low) lsb none first)
 
-pub ordered-no_low : (low high : List ℕ) (found : Option ℕ) → Says low found → found ≡ None → AreOrdered low high
-ordered-no_low low high found says none = λ lsb msb first second. absurd (no_value low found lsb says none first)
+pub ordered-no_high : (low high : List ℕ) → number_of high ≡ None → AreOrdered low high
+ordered-no_high low high none = λ lsb msb first second. absurd (no_value (number_of high) msb none second)
 
-pub ordered-no_high : (low high : List ℕ) (found : Option ℕ) → Says high found → found ≡ None → AreOrdered low high
-ordered-no_high low high found says none = λ lsb msb first second. absurd (no_value high found msb says none second)
-
-pub ordered-both : (low high : List ℕ) (one other : Option ℕ) (lsb msb : ℕ) → Says low one → Says high other → one ≡ Some lsb → other ≡ Some msb → (said : Bool) → said ≡ nat_le lsb msb → MatchBool said (AreOrdered low high) (¬ (AreOrdered low high))
-ordered-both low high one other lsb msb first second is_low is_high true is = λ l m low_is high_is.
+pub ordered-both : (low high : List ℕ) (lsb msb : ℕ) → number_of low ≡ Some lsb → number_of high ≡ Some msb → (said : Bool) → said ≡ nat_le lsb msb → MatchBool said (AreOrdered low high) (¬ (AreOrdered low high))
+ordered-both low high lsb msb is_low is_high true is = λ l m low_is high_is.
     let below : lsb ≤ msb = grind (arith, nat_tests, is) in
-    let same_low : l ≡ lsb = one_value low one lsb l first is_low low_is in
-    let same_high : m ≡ msb = one_value high other msb m second is_high high_is in
+    let same_low : l ≡ lsb = one_value (number_of low) lsb l is_low low_is in
+    let same_high : m ≡ msb = one_value (number_of high) msb m is_high high_is in
     omega (arith, below, same_low, same_high)
-ordered-both low high one other lsb msb first second is_low is_high false is = λ ordered.
-    let below : lsb ≤ msb = ordered lsb msb ((first lsb).0 is_low) ((second msb).0 is_high) in
+ordered-both low high lsb msb is_low is_high false is = λ ordered.
+    let below : lsb ≤ msb = ordered lsb msb is_low is_high in
     absurd (grind (arith, nat_tests, is, below))
 
-pub positive-none : (text : List ℕ) (found : Option ℕ) → Says text found → found ≡ None → IsPositive text
-positive-none text found says none = λ value is. absurd (no_value text found value says none is)
+pub positive-none : (text : List ℕ) → number_of text ≡ None → IsPositive text
+positive-none text none = λ value is. absurd (no_value (number_of text) value none is)
 
-pub positive-some : (text : List ℕ) (found : Option ℕ) (one : ℕ) → Says text found → found ≡ Some one → (said : Bool) → said ≡ nat_le 1 one → MatchBool said (IsPositive text) (¬ (IsPositive text))
-positive-some text found one says some true is = λ value spelled.
+pub positive-some : (text : List ℕ) (one : ℕ) → number_of text ≡ Some one → (said : Bool) → said ≡ nat_le 1 one → MatchBool said (IsPositive text) (¬ (IsPositive text))
+positive-some text one some true is = λ value spelled.
     let above : 1 ≤ one = grind (arith, nat_tests, is) in
-    let same : value ≡ one = one_value text found one value says some spelled in
+    let same : value ≡ one = one_value (number_of text) one value some spelled in
     omega (arith, above, same)
-positive-some text found one says some false is = λ positive.
-    let above : 1 ≤ one = positive one ((says one).0 some) in
+positive-some text one some false is = λ positive.
+    let above : 1 ≤ one = positive one some in
     absurd (grind (arith, nat_tests, is, above))
 
 -- ---- what is asked of a place, by what the entries hold

@@ -1,19 +1,11 @@
 -- The forms of the values of keys (CMSIS-SVD 1.3, as in descriptions).
-use Rattle.std.specs.Prelude.{◌≡◌, ◌<◌, ◌≤◌, ◌^◌, ℕ, Bool, true, not, ◌&&◌, nat_le, List, [], ◌∷◌, ◌++◌, length, reverse, Option, Some, None, ◌==◌, if◌then◌else◌}
-use Rattle.std.specs.List.{list_all, count_by, flat_map}
+use Rattle.std.specs.Prelude.{◌≡◌, ◌≤◌, ℕ, Bool, IsTrue, List, [], ◌∷◌, ◌++◌, reverse, Some, is_some}
+use Rattle.std.specs.List.{count_by, flat_map}
 use Rattle.glob_select.specs.Items.{Item}
 use Rattle.glob_select.specs.Naming.{is_open, plain_text}
 use Rattle.glob_select.specs.Spelling.{SpellsPattern}
 use Rattle.pac_base.specs.Names.{IsName, list_mark, array_mark}
-use Rattle.svd_values.specs.Indexes.{IsIndex}
-use Rattle.svd_values.specs.Numbers.{IsWholeNumber}
-use Rattle.svd_values.specs.Places.{IsPlace}
-use Rattle.svd_values.specs.SchemaWords.{access_text, write_kind_text, read_action_text}
-use Rattle.svd_values.specs.declared.index.DimIndex.{DimIndex}
-use Rattle.svd_values.specs.declared.place.Place.{Place}
-use Rattle.svd_values.specs.declared.schema_word.Access.{Access as AccessOf}
-use Rattle.svd_values.specs.declared.schema_word.WriteKind.{WriteKind as WriteKindOf}
-use Rattle.svd_values.specs.declared.schema_word.ReadAction.{ReadAction as ReadActionOf}
+use Rattle.svd_values.specs.Forms.{number_of, range_of, access_of, kind_of, action_of, index_of, name_of, path_of, is_label}
 use Rattle.text_scan.specs.Classes.{is_blank}
 use Rattle.text_scan.specs.Fronts.{rest_of}
 use Rattle.patch_form.specs.declared.form.Form.{Form}
@@ -23,52 +15,36 @@ use Rattle.patch_form.specs.declared.form.Form.TheVariants.{Number, Range, Acces
 unfoldable pub trimmed : List ℕ → List ℕ
 trimmed text = reverse (rest_of is_blank (reverse (rest_of is_blank text)))
 
-abbrev pub put : ℕ → List (List ℕ) → List (List ℕ)
-put byte [] = (byte ∷ []) ∷ []
-put byte (part ∷ parts) = (byte ∷ part) ∷ parts
-
--- the parts of a text between its dots
-unfoldable pub dotted_parts : List ℕ → List (List ℕ)
-dotted_parts [] = [] ∷ []
-dotted_parts (byte ∷ text) = if byte == 46 then [] ∷ dotted_parts text else put byte (dotted_parts text)
-
--- the parts of a text that may be missing
-abbrev pub parts_left : Option (List ℕ) → List (List ℕ)
-parts_left None = []
-parts_left (Some text) = dotted_parts text
-
-abbrev pub IsNumberText : List ℕ → ℕ → Type 0
-IsNumberText text value = IsWholeNumber text value × (value < 2 ^ 64)
-
--- no dot
-abbrev pub is_no_dot : ℕ → Bool
-is_no_dot byte = not (byte == 46)
-
-abbrev pub is_printed : ℕ → Bool
-is_printed byte = nat_le 32 byte && nat_le byte 126
-
-abbrev pub AreNames : List (List ℕ) → Type 0
-AreNames [] = Unit {0}
-AreNames (name ∷ names) = IsName name × AreNames names
+-- whether the text has the form
+abbrev pub has_form : Form → List ℕ → Bool
+has_form Number text = is_some (number_of text)
+has_form Range text = is_some (range_of text)
+has_form Access text = is_some (access_of text)
+has_form WriteKind text = is_some (kind_of text)
+has_form ReadAction text = is_some (action_of text)
+has_form Index text = is_some (index_of text)
+has_form Name text = is_some (name_of text)
+has_form NamePath text = is_some (path_of text)
+has_form DeviceName text = is_label text
 
 abbrev pub HasForm : Form → List ℕ → Type 0
-HasForm Number text = (value : ℕ) × IsNumberText text value
-HasForm Range text = (place : Place) × IsPlace text place
-HasForm Access text = (value : AccessOf) × (text ≡ access_text value)
-HasForm WriteKind text = (value : WriteKindOf) × (text ≡ write_kind_text value)
-HasForm ReadAction text = (value : ReadActionOf) × (text ≡ read_action_text value)
-HasForm Index text = (index : DimIndex) × IsIndex text index
+HasForm Number text = IsTrue (has_form Number text)
+HasForm Range text = IsTrue (has_form Range text)
+HasForm Access text = IsTrue (has_form Access text)
+HasForm WriteKind text = IsTrue (has_form WriteKind text)
+HasForm ReadAction text = IsTrue (has_form ReadAction text)
+HasForm Index text = IsTrue (has_form Index text)
 HasForm Name text = IsName text
-HasForm NamePath text = AreNames (dotted_parts text)
-HasForm DeviceName text = (1 ≤ length text) × (length text ≤ 255) × (list_all is_printed text ≡ true)
+HasForm NamePath text = IsTrue (has_form NamePath text)
+HasForm DeviceName text = IsTrue (has_form DeviceName text)
 
 -- the lowest bit isn't above the highest, where both are numbers
 abbrev pub AreOrdered : List ℕ → List ℕ → Type 0
-AreOrdered low high = (lsb msb : ℕ) → IsNumberText low lsb → IsNumberText high msb → lsb ≤ msb
+AreOrdered low high = (lsb msb : ℕ) → number_of low ≡ Some lsb → number_of high ≡ Some msb → lsb ≤ msb
 
 -- a width is not 0
 abbrev pub IsPositive : List ℕ → Type 0
-IsPositive text = (value : ℕ) → IsNumberText text value → 1 ≤ value
+IsPositive text = (value : ℕ) → number_of text ≡ Some value → 1 ≤ value
 
 -- the text holds `%s`
 pub record IsMarked (text : List ℕ) : Type 0 where

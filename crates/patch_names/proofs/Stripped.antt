@@ -1,6 +1,7 @@
 -- Stripping in the tree is that among the rows, and keeps what is said of a description.
 use Rattle.std.proofs.Common.{◌≡◌, ◌≤◌, ℕ, ◌+◌, Bool, true, false, ◌&&◌, nat_eq, nat_le, cond, List, [], ◌∷◌, ◌++◌, map, length, Option, None, Some, Result, Ok, Err, refl, sym, ap, ap₂, ◌∙◌, subst, arith, inl, inr, length-append}
 use Rattle.std.specs.List.{AllByRecursion, IsDistinct as AreDistinct, list_all}
+use Rattle.std.specs.Prelude.{unwrap_or}
 use Rattle.std.specs.Str.{bytes_eq}
 use Rattle.patch_edits.proofs.Binds.{given, given_is}
 use Rattle.patch_edits.proofs.Contexts.{tree_with}
@@ -19,7 +20,7 @@ use Rattle.patch_sem.specs.Steps.{Outcome, ◌>>=◌}
 use Rattle.patch_sem.specs.Stripping.{first_clash, rest_or_whole, stripped, stripped_step, stripping, unless_clash}
 use Rattle.pac_base.proofs.NameForms.{is_name-Decides}
 use Rattle.pac_base.specs.Names.{IsName}
-use Rattle.svd_keys.specs.Forms.{is_name}
+use Rattle.svd_values.specs.Forms.{is_name, name_of}
 use Rattle.text_scan.proofs.FixedText.{stripped-Some}
 use Rattle.text_scan.specs.Fronts.{stripped_of}
 use Rattle.patch_names.proofs.Clashes.{distinct-named, distinct-stripped}
@@ -232,14 +233,10 @@ unfolding stripped
 rest-named prefix name text rest b named is some =
     ap (λ (c : Bool). cond c rest name) (sym named) ∙ ap (λ (o : Option (List ℕ)). rest_or_whole o name) (some ∙ ap (stripped_of prefix) is)
 
-pub rest-some : (prefix name text rest made : List ℕ) → text ≡ name → Some rest ≡ stripped_of prefix text → made ≡ rest → IsName rest → made ≡ stripped prefix name
-unfolding is_name
-rest-some prefix name text rest made is some same named = same ∙ rest-named prefix name text rest true ((is_name-Decides rest).1 named) is some
-
-pub rest-isnt : (prefix name text rest : List ℕ) → text ≡ name → Some rest ≡ stripped_of prefix text → (IsName rest → ⊥) → name ≡ stripped prefix name
-unfolding is_name
-rest-isnt prefix name text rest is some isnt = rest-named prefix name text rest false (cases (is_name rest) refl) is some
+pub rest-kept : (prefix name text rest : List ℕ) (made : Option (List ℕ)) → text ≡ name → Some rest ≡ stripped_of prefix text → made ≡ name_of rest → unwrap_or made name ≡ stripped prefix name
+unfolding name_of
+rest-kept prefix name text rest made is some given = ap (λ (o : Option (List ℕ)). unwrap_or o name) given ∙ kept (is_name rest) ∙ rest-named prefix name text rest (is_name rest) refl is some
   where
-    cases : (b : Bool) → is_name rest ≡ b → b ≡ false
-    cases true e = absurd (isnt ((is_name-Decides rest).0 e))
-    cases false e = refl
+    kept : (b : Bool) → unwrap_or (cond b (Some rest) None) name ≡ cond b rest name
+    kept true = refl
+    kept false = refl

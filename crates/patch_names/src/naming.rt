@@ -2,22 +2,19 @@ ghost use Rattle.std.specs.Prelude.{◌≡◌, IfOk, unwrap_or};
 ghost use Rattle.patch_sem.specs.Stripping.{stripped};
 ghost use Rattle.patch_names.specs.Renaming.{stripped_key};
 
-use pac_base::{Name, NameFault, NoMemory};
+use pac_base::{Name, NoMemory};
 use std::alloc::Global;
 use svd_model::Sibling;
+use svd_values::element_name;
 use text_scan::stripped;
 
 /// What is left of a name without the prefix, where it begins with that and the rest is a name.
 fn rest_of(alloc: Global, prefix: &[u8], name: &Name) -> Result<Option<Name>, NoMemory>
     ensures { IfOk result (λ rest. unwrap_or rest name.now ≡ stripped prefix.now name.now) }
 {
-    let Some(rest) = stripped(name.bytes(), prefix) else {
-        return Ok(None);
-    };
-    match Name::new(alloc, rest) {
-        Ok(made) => Ok(Some(made)),
-        Err(NameFault::NotAName) => Ok(None),
-        Err(NameFault::Memory) => Err(NoMemory),
+    match stripped(name.bytes(), prefix) {
+        Some(rest) => element_name(alloc, rest),
+        None => Ok(None),
     }
 }
 

@@ -4,7 +4,7 @@ use Rattle.std.specs.Prelude.{ℕ, List, [], ◌∷◌, ◌++◌, codes, flat_ma
 use Rattle.std.specs.Map.{lookup}
 use Rattle.std.specs.Str.{bytes_eq}
 use Rattle.patch_model.specs.Acts.{KeyList}
-use Rattle.svd_keys.specs.Forms.{number_of, access_of, kind_of, action_of, name_of, label_of, index_of, path_of, range_of}
+use Rattle.svd_values.specs.Forms.{number_of, access_of, kind_of, action_of, name_of, label_of, index_of, path_of, range_of}
 use Rattle.svd_model.specs.Keys.{Key, device_name, derived_from, dim_count, dim_increment, dim_index, base_address, at_offset, bit_width, alternate_of, alternate_group, register_size, register_access, reset_value, reset_mask, write_kind, read_action, rank}
 use Rattle.svd_model.specs.Steps.{Step, Kind, peripheral, cluster, register, field, set, value, same_step}
 use Rattle.svd_rows.specs.Ranks.{set_key}

@@ -2,7 +2,7 @@
 -- patch documentation, narrowed).
 use Rattle.std.specs.Prelude.{ℕ, Bool, List, [], ◌∷◌, ◌++◌, map, find, Option, None, Some, Ok, Err, if◌then◌else◌}
 use Rattle.std.specs.Str.{bytes_eq}
-use Rattle.svd_keys.specs.Forms.{is_name}
+use Rattle.svd_values.specs.Forms.{is_name}
 use Rattle.svd_model.specs.Steps.{Step}
 use Rattle.svd_rows.specs.LookUps.{children_of}
 use Rattle.svd_rows.specs.RowEdits.{moved, renamed_path}

@@ -4,7 +4,7 @@ use Rattle.std.specs.Prelude.{◌≡◌, ℕ, List, [], ◌∷◌, ◌++◌, map
 use Rattle.glob_select.specs.Items.Item.{Exactly, Star}
 use Rattle.glob_select.specs.Matching.{fits as item_fits, taken, passes_behind_some}
 use Rattle.patch_model.specs.Acts.{PatternItems, KeyList, Added, no_more, added, opens, deletes, copies, modifies, modifies_device, adds, strips, arrays}
-use Rattle.svd_keys.specs.Forms.{number_of, range_of, name_of, label_of, is_name, is_label, path_of, parts_of, onto_first}
+use Rattle.svd_values.specs.Forms.{number_of, range_of, name_of, label_of, is_name, is_label, path_of, parts_of}
 use Rattle.svd_model.specs.Facts.{elements_of}
 use Rattle.svd_model.specs.Keys.{Key, rank, device_name, derived_from, dim_count, dim_increment, base_address, at_offset, bit_width, register_size}
 use Rattle.svd_model.specs.Stating.{value_of}
@@ -16,7 +16,6 @@ use Rattle.svd_rows.specs.RowEdits.{some_pass, added as added_behind, exchanged,
 use Rattle.svd_rows.specs.Rows.{element, states, own, under, under_path, is_element}
 use Rattle.svd_schema.specs.Names.{key_name}
 use Rattle.svd_schema.specs.Table.{row_of}
-use Rattle.svd_values.specs.Given.{number_given}
 use Rattle.svd_values.specs.Readers.{bounded, read_number, read_unsigned, read_digits, read_on, split_mark, without_plus, read_place, read_until, behind, value_before, place_at_end}
 use Rattle.text_scan.specs.Fronts.{stripped_of}
 use Rattle.patch_sem.specs.declared.fault.PatchFault.TheVariants.{NoMatch, AddExists, CopyMissing, Incomplete, StripClash, ArrayUneven, ArrayUnlike}
@@ -32,7 +31,7 @@ use Rattle.patch_sem.specs.Stripping.{stripped, pairs_behind, first_clash, strip
 
 -- what a command is computed with
 words : Unit {0}
-unfolding opening deleting done_at put_inside within_limit applied_at applied_to applied patched made_rows first_missing adding members put_in ordered_by by_offset neighbours first_uneven arraying group_of copying same_rows modified_each modifying selects is_named last_kind set_by key_set place_set keys_set with_keys keys_with stripped pairs_behind first_clash stripping item_fits taken passes_behind_some number_of range_of name_of label_of is_name is_label path_of parts_of onto_first elements_of rank value_of same_step inside keys_of top_key children_of child_step element_paths ends_with begins fits set_key some_pass added_behind exchanged without renamed_path is_below_rank has_rank with_key own under under_path is_element key_name row_of number_given bounded read_number read_unsigned read_digits read_on split_mark without_plus read_place read_until behind value_before place_at_end stripped_of
+unfolding opening deleting done_at put_inside within_limit applied_at applied_to applied patched made_rows first_missing adding members put_in ordered_by by_offset neighbours first_uneven arraying group_of copying same_rows modified_each modifying selects is_named last_kind set_by key_set place_set keys_set with_keys keys_with stripped pairs_behind first_clash stripping item_fits taken passes_behind_some number_of range_of name_of label_of is_name is_label path_of parts_of elements_of rank value_of same_step inside keys_of top_key children_of child_step element_paths ends_with begins fits set_key some_pass added_behind exchanged without renamed_path is_below_rank has_rank with_key own under under_path is_element key_name row_of bounded read_number read_unsigned read_digits read_on split_mark without_plus read_place read_until behind value_before place_at_end stripped_of
 words = tt
 
 -- ---- rows

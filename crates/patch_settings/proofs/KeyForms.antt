@@ -10,7 +10,7 @@ use Rattle.patch_sem.specs.Settings.{by_ends, by_range, key_set, keys_set, liste
 use Rattle.patch_settings.proofs.IndexForms.{Each, each_from, index_in_form}
 use Rattle.patch_settings.proofs.Placing.{Fit, fits_at}
 use Rattle.patch_settings.specs.Places.{fitting}
-use Rattle.svd_keys.specs.Forms.{number_of, access_of, kind_of, action_of, name_of, label_of, index_of, path_of, range_of}
+use Rattle.svd_values.specs.Forms.{number_of, access_of, kind_of, action_of, name_of, label_of, index_of, path_of, range_of}
 use Rattle.svd_model.specs.Facts.{IsBounded, IsIndex, IsIndexed}
 use Rattle.svd_model.specs.Keys.{Key, rank, device_name, derived_from, dim_count, dim_increment, dim_index, base_address, at_offset, bit_width, alternate_of, alternate_group, register_size, register_access, reset_value, reset_mask, write_kind, read_action}
 use Rattle.svd_schema.specs.declared.container.Container.{Container}
@@ -20,10 +20,9 @@ use Rattle.svd_schema.specs.declared.key.Key.TheVariants as key
 use Rattle.svd_schema.specs.declared.roles.Role.{Role}
 use Rattle.svd_schema.specs.declared.roles.Role.TheVariants.{Holds, States, PassedOver}
 use Rattle.svd_schema.specs.Table.{row_of}
-use Rattle.svd_values.proofs.Givens.{number_given-exactly}
 use Rattle.svd_values.proofs.Ranges.{place_exactly}
+use Rattle.svd_values.proofs.Spelling.{number_of-exactly}
 use Rattle.svd_values.specs.declared.place.Place.{Place}
-use Rattle.svd_values.specs.Given.{number_given}
 use Rattle.svd_values.specs.Places.{place_between}
 use Rattle.svd_values.specs.Readers.{read_place}
 
@@ -39,8 +38,7 @@ AreGood places keys = AllByRecursion (IsGood places) keys
 -- ---- numbers
 
 number_below : (text : List ℕ) → Each (λ n. n < 2 ^ 64) (number_of text)
-unfolding number_of
-number_below text = each_from (λ n. n < 2 ^ 64) (number_given text) (λ n is. ((number_given-exactly text n).0 is).1)
+number_below text = each_from (λ n. n < 2 ^ 64) (number_of text) (λ n is. ((number_of-exactly text n).0 is).1)
 
 stated_below : (stated : Stated) (keys : KeyList) → Each (λ n. n < 2 ^ 64) (number_at stated keys)
 stated_below stated keys = cases (value_of stated keys)
@@ -226,7 +224,7 @@ between-good msb lsb high low = (offset_good lsb low, (width_good (msb - lsb + 1
 range-good : (text : List ℕ) (answer : Option Place) → answer ≡ read_place text → AreGood of_field (of_range answer)
 range-good text None is = tt
 range-good text (Some place) is =
-    let range = (place_exactly text (Some place) is place).0 refl in
+    let range = (place_exactly text place).0 (sym is) in
     subst (λ (p : Place). AreGood of_field (of_place p)) (sym range.is) (between-good range.msb range.lsb range.range.below (low range.msb range.lsb range.range.below range.range.rises))
   where
     low : (a b : ℕ) → a < 2 ^ 64 → b ≤ a → b < 2 ^ 64

@@ -2,10 +2,8 @@
 #![tactic(auto)]
 
 mod element;
-mod form;
 mod law;
 mod merging;
-mod path;
 mod place;
 mod settings;
 mod start;

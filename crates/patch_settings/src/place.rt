@@ -2,12 +2,11 @@ ghost use Rattle.std.specs.Prelude.{◌≡◌, option_map};
 ghost use Rattle.std.specs.Map.{lookup};
 ghost use Rattle.std.specs.Str.{bytes_eq};
 ghost use Rattle.patch_sem.specs.Settings.{by_ends, number_at, of_place, of_range, place_in, place_set, value_of};
-ghost use Rattle.svd_keys.specs.Forms.{range_of};
+ghost use Rattle.svd_values.specs.Forms.{range_of};
 
-use crate::form;
 use pac_base::Text;
 use svd_schema::{Container, Key};
-use svd_values::Place;
+use svd_values::{Place, bit_range, number};
 
 fn is_key(key: &Text, name: &[u8]) -> bool
     ensures { result ≡ bytes_eq name.now key.now }
@@ -38,7 +37,7 @@ fn number_at(keys: &[(Text, Text)], key: Key) -> Option<u64>
 {
     match value_of(keys, key) {
         None => None,
-        Some(text) => form::number(text.as_str().as_bytes()),
+        Some(text) => number(text.as_str().as_bytes()),
     }
 }
 
@@ -78,7 +77,7 @@ fn by_ends(lsb: Option<u64>, msb: Option<u64>, offset: Option<u64>, width: Optio
 fn by_range(text: &Text) -> Place
     ensures { of_place result ≡ of_range (range_of text.now) }
 {
-    match form::range(text.as_str().as_bytes()) {
+    match bit_range(text.as_str().as_bytes()) {
         Some(place) => place,
         None => stated(None, None),
     }

@@ -1,17 +1,18 @@
 ghost use Rattle.std.specs.Prelude.{◌≡◌, IfOk, OnOk, option_map};
 ghost use Rattle.patch_sem.specs.Settings.{key_set, keys_set, listed, of_place, set_by, set_in_role};
 ghost use Rattle.patch_settings.specs.Places.{IsOver, none_placed, placed, places};
-ghost use Rattle.svd_keys.specs.Forms.{path_of};
+ghost use Rattle.svd_values.specs.Forms.{path_of};
 ghost use Rattle.svd_model.specs.Keys.{derived_from};
 
-use crate::form;
-use crate::path::path;
 use crate::place::place_in;
 use pac_base::{Name, NoMemory, Path, Text};
 use std::alloc::Global;
 use svd_model::{Dim, Props};
 use svd_schema::{Container, Key, Role, role};
-use svd_values::{Place, ReadAction, WriteKind};
+use svd_values::{
+    Place, ReadAction, WriteKind, access_word, dim_index, element_name, element_path, label,
+    number, read_action, write_kind,
+};
 
 /// The keys that texts of a patch set at an element, each as the last text of it says.
 #[derive(Drop)]
@@ -147,7 +148,7 @@ impl Settings {
     fn put_source(&mut self, alloc: Global, text: &[u8]) -> Result<(), NoMemory>
         ensures { OnOk result (places self.new ≡ placed (listed (option_map derived_from (path_of text.now))) (places self.old)) }
     {
-        put(&mut self.derived, path(alloc, text)?);
+        put(&mut self.derived, element_path(alloc, text)?);
         Ok(())
     }
 
@@ -173,22 +174,22 @@ impl Settings {
         ensures { OnOk result (places self.new ≡ placed (listed (set_by key text.now)) (places self.old)) }
     {
         match key {
-            Key::Name => put(&mut self.name, form::label(alloc, text)?),
+            Key::Name => put(&mut self.name, label(alloc, text)?),
             Key::AddressUnitBits => {}
-            Key::Size => put(&mut self.props.size, form::number(text)),
-            Key::Access => put(&mut self.props.access, form::access(text)),
-            Key::ResetValue => put(&mut self.props.reset_value, form::number(text)),
-            Key::ResetMask => put(&mut self.props.reset_mask, form::number(text)),
-            Key::Dim => put(&mut self.dim.count, form::number(text)),
-            Key::DimIncrement => put(&mut self.dim.step, form::number(text)),
-            Key::DimIndex => put(&mut self.dim.index, form::index(alloc, text)?),
-            Key::BaseAddress => put(&mut self.base, form::number(text)),
-            Key::AddressOffset => put_offset(&mut self.place.offset, form::number(text)),
-            Key::AlternateCluster => put(&mut self.alternate, form::name(alloc, text)?),
-            Key::AlternateGroup => put(&mut self.group, form::name(alloc, text)?),
-            Key::AlternateRegister => put(&mut self.alternate, form::name(alloc, text)?),
-            Key::ModifiedWriteValues => put(&mut self.kind, form::kind(text)),
-            Key::ReadAction => put(&mut self.action, form::action(text)),
+            Key::Size => put(&mut self.props.size, number(text)),
+            Key::Access => put(&mut self.props.access, access_word(text)),
+            Key::ResetValue => put(&mut self.props.reset_value, number(text)),
+            Key::ResetMask => put(&mut self.props.reset_mask, number(text)),
+            Key::Dim => put(&mut self.dim.count, number(text)),
+            Key::DimIncrement => put(&mut self.dim.step, number(text)),
+            Key::DimIndex => put(&mut self.dim.index, dim_index(alloc, text)?),
+            Key::BaseAddress => put(&mut self.base, number(text)),
+            Key::AddressOffset => put_offset(&mut self.place.offset, number(text)),
+            Key::AlternateCluster => put(&mut self.alternate, element_name(alloc, text)?),
+            Key::AlternateGroup => put(&mut self.group, element_name(alloc, text)?),
+            Key::AlternateRegister => put(&mut self.alternate, element_name(alloc, text)?),
+            Key::ModifiedWriteValues => put(&mut self.kind, write_kind(text)),
+            Key::ReadAction => put(&mut self.action, read_action(text)),
             Key::BitOffset => {}
             Key::BitWidth => {}
             Key::Lsb => {}

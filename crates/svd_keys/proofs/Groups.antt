@@ -3,7 +3,7 @@ use Rattle.std.proofs.Common.{◌≡◌, ℕ, List, refl, ap, Option, Some, None
 use Rattle.pac_base.specs.declared.path.Step.{Step}
 use Rattle.svd_keys.specs.declared.fault.PlacedFault.{PlacedFault}
 use Rattle.svd_keys.specs.Earliest.{earlier, least}
-use Rattle.svd_keys.specs.Forms.{path_of}
+use Rattle.svd_values.specs.Forms.{path_of}
 use Rattle.svd_keys.specs.KeysOf.{derived_of}
 use Rattle.svd_keys.specs.OwnFaults.{bad_source, source_faults}
 

@@ -1,12 +1,9 @@
-pub mod Exactly
 pub mod Firsts
 pub mod Groups
-pub mod IndexLists
 pub mod KeyReads
 pub mod Lacks
 pub mod Loops
 pub mod Orders
-pub mod Paths
 pub mod Seen
 pub mod Trimming
 pub mod WrittenNames

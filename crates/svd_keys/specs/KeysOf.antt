@@ -8,7 +8,7 @@ use Rattle.svd_model.specs.declared.device.Dim.{Dim}
 use Rattle.svd_model.specs.declared.props.Props.{Props}
 use Rattle.svd_keys.specs.declared.keys.Keys.{Keys}
 use Rattle.svd_keys.specs.Children.{Tree}
-use Rattle.svd_keys.specs.Forms.{number_of, bits_of, access_of, kind_of, action_of, usage_of, name_of, label_of, index_of, path_of}
+use Rattle.svd_values.specs.Forms.{number_of, bits_of, access_of, kind_of, action_of, usage_of, name_of, label_of, index_of, path_of}
 use Rattle.svd_keys.specs.Missing.{is_default}
 use Rattle.svd_keys.specs.Places.{no_place, place_of}
 use Rattle.svd_keys.specs.Values.{value_of}

@@ -1,6 +1,5 @@
 pub mod Earliest
 pub mod Texts
-pub mod Forms
 pub mod Children
 pub mod Runs
 pub mod Values

@@ -13,7 +13,7 @@ use Rattle.svd_keys.specs.declared.fault.Fault.TheVariants.{MissingElement}
 use Rattle.svd_keys.specs.Children.{Tree, holds, when}
 use Rattle.svd_keys.specs.Texts.{name_span}
 use Rattle.svd_keys.specs.Values.{value_of}
-use Rattle.svd_keys.specs.Forms.{flag_of}
+use Rattle.svd_values.specs.Forms.{flag_of}
 
 -- the name of an element that must be there
 abbrev pub required_name : Required → List ℕ

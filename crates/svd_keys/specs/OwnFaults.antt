@@ -12,7 +12,7 @@ use Rattle.svd_keys.specs.declared.fault.BadKind.TheVariants as bad
 use Rattle.svd_keys.specs.declared.fault.PlacedFault.{PlacedFault}
 use Rattle.svd_keys.specs.declared.fault.Fault.TheVariants.{BadValue}
 use Rattle.svd_keys.specs.Children.{Tree, when, unknown_in, double_of}
-use Rattle.svd_keys.specs.Forms.{number_of, bits_of, unit_of, access_of, kind_of, action_of, usage_of, flag_of, name_of, label_of, index_of, path_of}
+use Rattle.svd_values.specs.Forms.{number_of, bits_of, unit_of, access_of, kind_of, action_of, usage_of, flag_of, name_of, label_of, index_of, path_of}
 use Rattle.svd_keys.specs.Missing.{missing_faults}
 use Rattle.svd_keys.specs.Places.{place_faults}
 use Rattle.svd_keys.specs.Texts.{span_at}

@@ -8,7 +8,7 @@ use Rattle.svd_values.specs.Places.{place_between}
 use Rattle.svd_keys.specs.declared.fault.BadKind.TheVariants as bad
 use Rattle.svd_keys.specs.declared.fault.PlacedFault.{PlacedFault}
 use Rattle.svd_keys.specs.Children.{Tree, child, when}
-use Rattle.svd_keys.specs.Forms.{number_of, range_of}
+use Rattle.svd_values.specs.Forms.{number_of, range_of}
 use Rattle.svd_keys.specs.Missing.{states}
 use Rattle.svd_keys.specs.Values.{value_of, bad_value, key_faults}
 

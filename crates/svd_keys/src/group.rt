@@ -1,14 +1,13 @@
 ghost use Rattle.std.specs.Prelude.{◌≡◌, IfOk, Some};
 ghost use Rattle.svd_schema.specs.declared.key.Key.TheVariants.{Name as OfName, ModifiedWriteValues as OfWrites, ReadAction as OfReads};
 ghost use Rattle.svd_keys.specs.Earliest.{least};
-ghost use Rattle.svd_keys.specs.Forms.{name_of, kind_of, action_of};
+ghost use Rattle.svd_values.specs.Forms.{name_of, kind_of, action_of};
 ghost use Rattle.svd_keys.specs.KeysOf.{props_of, dim_of, derived_of};
 ghost use Rattle.svd_keys.specs.OwnFaults.{bad_source, property_faults, dim_faults, effect_faults, source_faults, named_faults};
 ghost use Rattle.svd_keys.specs.Values.{value_of};
 ghost use Rattle.svd_text.specs.Views.{element_of, source_of};
 
 use crate::fault::{BadKind, Fault, PlacedFault, earliest};
-use crate::path::path;
 use crate::read::{Read, access_key, action_key, index_key, kind_key, name_key, number_key};
 use crate::text::span_at;
 use pac_base::{Name, NoMemory, Path};
@@ -16,7 +15,7 @@ use std::alloc::Global;
 use svd_model::{Dim, Props};
 use svd_schema::Key;
 use svd_text::{Element, Source};
-use svd_values::{ReadAction, WriteKind};
+use svd_values::{ReadAction, WriteKind, element_path};
 
 /// What writes and reads do.
 #[derive(Drop)]
@@ -105,7 +104,7 @@ fn bad_source(source: &Source) -> PlacedFault
 fn read_path(alloc: Global, source: &Source) -> Result<Read<Option<Path>>, NoMemory>
     ensures { IfOk result (λ read. (read.value ≡ derived_of (Some (source_of source.now))) × (read.fault ≡ least (source_faults (Some (source_of source.now))))) }
 {
-    match path(alloc, source.value)? {
+    match element_path(alloc, source.value)? {
         Some(path) => Ok(Read {
             value: Some(path),
             fault: None,

@@ -5,12 +5,10 @@
 
 mod child;
 mod fault;
-mod form;
 mod group;
 mod keys;
 mod law;
 mod missing;
-mod path;
 mod place;
 mod read;
 mod row;
@@ -20,6 +18,6 @@ mod written;
 
 pub use fault::{BadKind, Fault, PlacedFault, Required, earlier};
 pub use keys::{Keys, Stated};
-pub use law::{forms_law, least_law};
+pub use law::least_law;
 pub use stated::{own_keys, read_keys};
 pub use written::{Written, is_reserved_name, sibling_name, written_name};

@@ -2,20 +2,23 @@ ghost use Rattle.std.specs.Prelude.{◌≡◌, ◌++◌, IfOk, is_none};
 ghost use Rattle.svd_schema.specs.Names.{key_name};
 ghost use Rattle.svd_keys.specs.Children.{strays, when};
 ghost use Rattle.svd_keys.specs.Earliest.{least};
-ghost use Rattle.svd_keys.specs.Forms.{number_of, bits_of, unit_of, access_of, kind_of, action_of, usage_of, flag_of, range_of, name_of, label_of, index_of};
+ghost use Rattle.svd_values.specs.Forms.{number_of, bits_of, unit_of, access_of, kind_of, action_of, usage_of, flag_of, range_of, name_of, label_of, index_of};
 ghost use Rattle.svd_keys.specs.Values.{IsRead, bad_value};
 ghost use Rattle.svd_keys.specs.declared.fault.BadKind.TheVariants.{Number as AsNumber, Word as AsWord, Name as AsName, Place as AsPlace, Index as AsIndex};
 ghost use Rattle.svd_text.specs.Views.{element_of};
 
 use crate::child::{child, strays};
 use crate::fault::{BadKind, Fault, PlacedFault, earlier};
-use crate::form;
 use crate::text::{value_span, value_text};
 use pac_base::{Name, NoMemory, Text};
 use std::alloc::Global;
 use svd_schema::Key;
 use svd_text::Element;
-use svd_values::{Access, DimIndex, Place, ReadAction, Usage, WriteKind};
+use svd_values::{
+    Access, DimIndex, Place, ReadAction, Usage, WriteKind, access_word, bit_range, dim_index,
+    element_name, flag_word, label, number, read_action, unit_bits, usage_word, value_bits,
+    write_kind,
+};
 
 /// What was read, and the first fault in it.
 #[derive(Drop)]
@@ -70,7 +73,7 @@ pub(crate) fn number_key(element: &Element, key: Key) -> Read<Option<u64>>
             fault: None,
         },
         Some(found) => {
-            let value = form::number(value_text(found));
+            let value = number(value_text(found));
             let fault = key_fault(element, key, BadKind::Number, found, value.is_none());
             Read { value, fault }
         }
@@ -87,7 +90,7 @@ pub(crate) fn bits_key(element: &Element, key: Key) -> Read<Option<u64>>
             fault: None,
         },
         Some(found) => {
-            let value = form::bits(value_text(found));
+            let value = value_bits(value_text(found));
             let fault = key_fault(element, key, BadKind::Number, found, value.is_none());
             Read { value, fault }
         }
@@ -104,7 +107,7 @@ pub(crate) fn unit_key(element: &Element, key: Key) -> Read<Option<u64>>
             fault: None,
         },
         Some(found) => {
-            let value = form::unit(value_text(found));
+            let value = unit_bits(value_text(found));
             let fault = key_fault(element, key, BadKind::Number, found, value.is_none());
             Read { value, fault }
         }
@@ -121,7 +124,7 @@ pub(crate) fn access_key(element: &Element, key: Key) -> Read<Option<Access>>
             fault: None,
         },
         Some(found) => {
-            let value = form::access(value_text(found));
+            let value = access_word(value_text(found));
             let fault = key_fault(element, key, BadKind::Word, found, value.is_none());
             Read { value, fault }
         }
@@ -138,7 +141,7 @@ pub(crate) fn kind_key(element: &Element, key: Key) -> Read<Option<WriteKind>>
             fault: None,
         },
         Some(found) => {
-            let value = form::kind(value_text(found));
+            let value = write_kind(value_text(found));
             let fault = key_fault(element, key, BadKind::Word, found, value.is_none());
             Read { value, fault }
         }
@@ -155,7 +158,7 @@ pub(crate) fn action_key(element: &Element, key: Key) -> Read<Option<ReadAction>
             fault: None,
         },
         Some(found) => {
-            let value = form::action(value_text(found));
+            let value = read_action(value_text(found));
             let fault = key_fault(element, key, BadKind::Word, found, value.is_none());
             Read { value, fault }
         }
@@ -172,7 +175,7 @@ pub(crate) fn usage_key(element: &Element, key: Key) -> Read<Option<Usage>>
             fault: None,
         },
         Some(found) => {
-            let value = form::usage(value_text(found));
+            let value = usage_word(value_text(found));
             let fault = key_fault(element, key, BadKind::Word, found, value.is_none());
             Read { value, fault }
         }
@@ -189,7 +192,7 @@ pub(crate) fn flag_key(element: &Element, key: Key) -> Read<Option<bool>>
             fault: None,
         },
         Some(found) => {
-            let value = form::flag(value_text(found));
+            let value = flag_word(value_text(found));
             let fault = key_fault(element, key, BadKind::Word, found, value.is_none());
             Read { value, fault }
         }
@@ -206,7 +209,7 @@ pub(crate) fn range_key(element: &Element, key: Key) -> Read<Option<Place>>
             fault: None,
         },
         Some(found) => {
-            let value = form::range(value_text(found));
+            let value = bit_range(value_text(found));
             let fault = key_fault(element, key, BadKind::Place, found, value.is_none());
             Read { value, fault }
         }
@@ -227,7 +230,7 @@ pub(crate) fn name_key(
             fault: None,
         }),
         Some(found) => {
-            let value = form::name(alloc, value_text(found))?;
+            let value = element_name(alloc, value_text(found))?;
             let fault = key_fault(element, key, BadKind::Name, found, value.is_none());
             Ok(Read { value, fault })
         }
@@ -248,7 +251,7 @@ pub(crate) fn label_key(
             fault: None,
         }),
         Some(found) => {
-            let value = form::label(alloc, value_text(found))?;
+            let value = label(alloc, value_text(found))?;
             let fault = key_fault(element, key, BadKind::Name, found, value.is_none());
             Ok(Read { value, fault })
         }
@@ -269,7 +272,7 @@ pub(crate) fn index_key(
             fault: None,
         }),
         Some(found) => {
-            let value = form::index(alloc, value_text(found))?;
+            let value = dim_index(alloc, value_text(found))?;
             let fault = key_fault(element, key, BadKind::Index, found, value.is_none());
             Ok(Read { value, fault })
         }

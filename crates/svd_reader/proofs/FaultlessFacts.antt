@@ -20,7 +20,7 @@ use Rattle.svd_rows.specs.Forest.{Forest, leaf, siblings}
 use Rattle.svd_rows.specs.Ranks.{stated}
 use Rattle.svd_rows.proofs.Siblings.{Every-siblings, IsDistinct-siblings}
 use Rattle.svd_keys.specs.Children.{Tree, members, has_name, child}
-use Rattle.svd_keys.specs.Forms.{is_name, name_of, is_printable, is_label, label_of}
+use Rattle.svd_values.specs.Forms.{is_name, name_of, is_printable, is_label, label_of}
 use Rattle.svd_keys.specs.KeysOf.{keys_of}
 use Rattle.svd_keys.specs.Texts.{value_text}
 use Rattle.svd_keys.specs.Values.{value_of}

@@ -19,7 +19,7 @@ use Rattle.svd_keys.specs.declared.fault.PlacedFault.{PlacedFault}
 use Rattle.svd_keys.specs.declared.fault.Required.TheVariants as required
 use Rattle.svd_keys.specs.declared.keys.Keys.{Keys}
 use Rattle.svd_keys.specs.Children.{Tree, child, strays, unknown_in, when}
-use Rattle.svd_keys.specs.Forms.{number_of, range_of, path_of, access_of}
+use Rattle.svd_values.specs.Forms.{number_of, range_of, path_of, access_of}
 use Rattle.svd_keys.specs.KeysOf.{derived_of, keys_of}
 use Rattle.svd_keys.specs.Missing.{states, lack_key, missing, missing_ends, missing_place, missing_of, missing_faults}
 use Rattle.svd_keys.specs.OwnFaults.{bad_source, source_faults, named_faults, name_faults, dim_faults, effect_faults, row_faults, own_faults}

@@ -1,10 +1,9 @@
 -- What an element states is in its form: its numbers are within their bounds, and its indexes are those that a text gives.
-use Rattle.std.proofs.Common.{◌≡◌, ◌≢◌, ◌⊎◌, ℕ, ◌+◌, ◌-◌, ◌^◌, ◌<◌, ◌≤◌, List, [], ◌∷◌, Bool, true, false, nat_le, ◌==◌, refl, sym, ap, subst, Option, Some, None, option_map, option_and_then, unwrap_or, arith, inl, inr, IsTrue}
+use Rattle.std.proofs.Common.{◌≡◌, ◌≢◌, ◌⊎◌, ℕ, ◌+◌, ◌-◌, ◌^◌, ◌<◌, ◌≤◌, List, [], ◌∷◌, Bool, true, false, nat_le, refl, sym, ap, subst, Option, Some, None, option_map, option_and_then, unwrap_or, arith, inl, inr, IsTrue}
 use Rattle.std.specs.Prelude.{⊤, if◌then◌else◌, is_some}
 use Rattle.std.specs.List.{AllByRecursion, list_all}
-use Rattle.std.specs.Option.{option_or}
 use Rattle.std.specs.Char.{is_ascii_uppercase, is_ascii_lowercase}
-use Rattle.std.proofs.lemmas.Bool.{and_parts, leb-true}
+use Rattle.std.proofs.lemmas.Bool.{leb-true}
 use Rattle.std.proofs.lemmas.Bool.Decides.{nat_tests}
 use Rattle.pac_base.specs.Names.{IsWord}
 use Rattle.svd_schema.specs.declared.container.Container.{Container}
@@ -12,21 +11,21 @@ use Rattle.svd_schema.specs.declared.container.Container.TheVariants.{Device, Pe
 use Rattle.svd_schema.specs.declared.key.Key.{Key as KeyName}
 use Rattle.svd_schema.specs.declared.key.Key.TheVariants as key
 use Rattle.svd_schema.specs.Names.{key_name}
+use Rattle.svd_values.specs.declared.index.DimIndex.{DimIndex}
 use Rattle.svd_values.specs.declared.index.DimIndex.TheVariants.{Numbers, Letters, Words}
 use Rattle.svd_values.specs.declared.place.Place.{Place}
-use Rattle.svd_values.specs.Given.{number_given}
-use Rattle.svd_values.specs.Indexes.{IsLetterRange as IsLettersRange}
+use Rattle.svd_values.specs.Indexes.{IsLetterRange as IsLettersRange, IsWordList, IsIndex as IsIndexText}
 use Rattle.svd_values.specs.Places.{place_between}
-use Rattle.svd_values.specs.Readers.{read_place, read_numbers, read_letters}
-use Rattle.svd_values.proofs.Givens.{number_given-exactly}
-use Rattle.svd_values.proofs.IndexRanges.{numbers_exactly, letters_exactly}
+use Rattle.svd_values.specs.Readers.{read_place}
+use Rattle.svd_values.proofs.Indexing.{index-exactly}
 use Rattle.svd_values.proofs.Ranges.{place_exactly}
+use Rattle.svd_values.proofs.Spelling.{number_of-exactly}
 use Rattle.svd_model.specs.Facts.{IsLetterRange, IsIndex, IsBounded, IsIndexed}
 use Rattle.svd_model.specs.Keys.{Key, derived_from, dim_count, dim_increment, dim_index, base_address, at_offset, bit_width, alternate_of, alternate_group, register_size, register_access, reset_value, reset_mask, write_kind, read_action, value_usage, enumerated_value}
 use Rattle.svd_rows.specs.Ranks.{stated}
 use Rattle.svd_keys.specs.declared.keys.Keys.{Keys}
 use Rattle.svd_keys.specs.Children.{Tree, child}
-use Rattle.svd_keys.specs.Forms.{number_of, range_of, is_full_word, onto_first, parts_of, after_commas, words_of, index_of}
+use Rattle.svd_values.specs.Forms.{number_of, range_of, index_of}
 use Rattle.svd_keys.specs.KeysOf.{dim_of, keys_of}
 use Rattle.svd_keys.specs.Missing.{states}
 use Rattle.svd_keys.specs.Places.{no_place, has_ends, place_from, place_with, place_of}
@@ -56,10 +55,6 @@ each_free : {X Y : Type 0} (P : Y → Type 0) (made : X → Y) (answer : Option 
 each_free P made None free = tt
 each_free P made (Some x) free = free x
 
-each_or : {X : Type 0} (P : X → Type 0) (one other : Option X) → Each P one → Each P other → Each P (option_or one other)
-each_or P None other first second = second
-each_or P (Some x) other first second = first
-
 -- what holds of all that a form gives holds of the value of a key in that form
 pub each_value : {X : Type 0} (P : X → Type 0) (form : List ℕ → Option X) → ((text : List ℕ) → Each P (form text)) → (key : KeyName) (tree : Tree) → Each P (value_of form key tree)
 unfolding value_of
@@ -72,8 +67,7 @@ each_value P form each key tree = cases (child (key_name key) tree)
 -- ---- numbers and places
 
 pub number_below : (text : List ℕ) → Each (λ n. n < 2 ^ 64) (number_of text)
-unfolding number_of
-number_below text = each_from (λ n. n < 2 ^ 64) (number_given text) (λ n is. ((number_given-exactly text n).0 is).1)
+number_below text = each_from (λ n. n < 2 ^ 64) (number_of text) (λ n is. ((number_of-exactly text n).0 is).1)
 
 -- a place within the bounds
 pub record IsPlaceBounded (place : Place) : Type 0 where
@@ -95,14 +89,14 @@ none_bounded = record { offset = tt; width = tt }
 range_bounded : (text : List ℕ) → Each IsPlaceBounded (range_of text)
 unfolding range_of
 range_bounded text = each_from IsPlaceBounded (read_place text) (λ place is.
-    let range = (place_exactly text (read_place text) refl place).0 is in
+    let range = (place_exactly text place).0 is in
     subst IsPlaceBounded (sym range.is) (between_bounded range.msb range.lsb range.range.below range.range.rises))
 
 -- a range of bits begins somewhere
 pub range_begins : (text : List ℕ) → Each (λ (place : Place). (n : ℕ) × (place.offset ≡ Some n)) (range_of text)
 unfolding range_of
 range_begins text = each_from (λ (place : Place). (n : ℕ) × (place.offset ≡ Some n)) (read_place text) (λ place is.
-    let range = (place_exactly text (read_place text) refl place).0 is in
+    let range = (place_exactly text place).0 is in
     (range.lsb, ap (λ (other : Place). other.offset) range.is))
 
 stated_range : (answer : Option Place) → Each IsPlaceBounded answer → IsPlaceBounded (unwrap_or answer no_place)
@@ -155,52 +149,19 @@ letters_range text first last is = (is.rises, cases is.one_case)
     cases (inl upper) = inl (upper_case first last upper.0 upper.1)
     cases (inr lower) = inr (lower_case first last lower.0 lower.1)
 
-full_word : (word : List ℕ) → is_full_word word ≡ true → IsWord word × (word ≢ [])
-full_word [] full = cc
-full_word (byte ∷ word) full = (full, λ e. cc)
+full_words : (text : List ℕ) (words : List (List ℕ)) → IsWordList text words → AllByRecursion (λ word. IsWord word × (word ≢ [])) words
+full_words text [] is = absurd is
+full_words text (word ∷ []) (is, full) = ((full.letters, full.some), tt)
+full_words text (word ∷ (next ∷ words)) (rest, before, more) = ((before.full.letters, before.full.some), full_words rest (next ∷ words) more)
 
-full_words : (words : List (List ℕ)) → list_all is_full_word words ≡ true → AllByRecursion (λ word. IsWord word × (word ≢ [])) words
-full_words [] full = tt
-full_words (word ∷ words) full = let parts = and_parts (is_full_word word) (list_all is_full_word words) full in (full_word word parts.0, full_words words parts.1)
-
-some_onto : (byte : ℕ) (parts : List (List ℕ)) → onto_first byte parts ≢ []
-unfolding onto_first
-some_onto byte [] = λ e. cc
-some_onto byte (part ∷ parts) = λ e. cc
-
-some_part : (mark : ℕ) (text : List ℕ) → parts_of mark text ≢ []
-unfolding parts_of
-some_part mark [] = λ e. cc
-some_part mark (byte ∷ text) = cases (byte == mark)
-  where
-    cases : (same : Bool) → (if same then [] ∷ parts_of mark text else onto_first byte (parts_of mark text)) ≢ []
-    cases true = λ e. cc
-    cases false = some_onto byte (parts_of mark text)
-
-some_word : (parts : List (List ℕ)) → parts ≢ [] → after_commas parts ≢ []
-unfolding after_commas
-some_word [] some = some
-some_word (first ∷ parts) some = λ e. cc
-
-words_in_form : (text : List ℕ) → Each (λ words. IsIndex (Words words)) (words_of text)
-unfolding words_of
-words_in_form text = cases (list_all is_full_word (after_commas (parts_of 44 text))) refl
-  where
-    cases : (full : Bool) → list_all is_full_word (after_commas (parts_of 44 text)) ≡ full → Each (λ words. IsIndex (Words words)) (if full then Some (after_commas (parts_of 44 text)) else None)
-    cases true is = (some_word (parts_of 44 text) (some_part 44 text), full_words (after_commas (parts_of 44 text)) is)
-    cases false is = tt
+in_form : (text : List ℕ) (index : DimIndex) → IsIndexText text index → IsIndex index
+in_form text (Numbers first last) is = is.rises
+in_form text (Letters first last) is = letters_range text first last is
+in_form text (Words []) is = absurd is
+in_form text (Words (word ∷ words)) is = (λ e. cc, full_words text (word ∷ words) is)
 
 pub index_in_form : (text : List ℕ) → Each IsIndex (index_of text)
-unfolding index_of
-index_in_form text =
-    each_or IsIndex (option_map (λ (range : ℕ × ℕ). Numbers range.0 range.1) (read_numbers text))
-    (option_or (option_map (λ (range : ℕ × ℕ). Letters range.0 range.1) (read_letters text)) (option_map Words (words_of text)))
-    (each_map IsIndex (λ (range : ℕ × ℕ). Numbers range.0 range.1) (read_numbers text)
-    (each_from (λ (range : ℕ × ℕ). range.0 ≤ range.1) (read_numbers text) (λ range is. ((numbers_exactly text range.0 range.1).0 is).rises)))
-    (each_or IsIndex (option_map (λ (range : ℕ × ℕ). Letters range.0 range.1) (read_letters text)) (option_map Words (words_of text))
-    (each_map IsIndex (λ (range : ℕ × ℕ). Letters range.0 range.1) (read_letters text)
-    (each_from (λ (range : ℕ × ℕ). IsLetterRange range.0 range.1) (read_letters text) (λ range is. letters_range text range.0 range.1 ((letters_exactly text range.0 range.1).0 is))))
-    (each_map IsIndex Words (words_of text) (words_in_form text)))
+index_in_form text = each_from IsIndex (index_of text) (λ index is. in_form text index ((index-exactly text index).0 is))
 
 -- ---- the keys of an element
 

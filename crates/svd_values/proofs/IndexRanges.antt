@@ -5,9 +5,7 @@ use Rattle.std.proofs.lemmas.Bool.{leb-true, le-leb}
 use Rattle.svd_values.specs.declared.numeral.Digits.TheVariants.{Decimal}
 use Rattle.svd_values.specs.Numbers.{IsWritten}
 use Rattle.svd_values.specs.Readers.{bounded, read_digits, read_until, rising, read_numbers, letters_rise, read_letters}
-use Rattle.svd_values.specs.declared.index.DimIndex.{DimIndex}
-use Rattle.svd_values.specs.declared.index.DimIndex.TheVariants.{Numbers, Letters, Words}
-use Rattle.svd_values.specs.Indexes.{IsNumberRange, IsLetterRange, IsWordList, IsIndex}
+use Rattle.svd_values.specs.Indexes.{IsNumberRange, IsLetterRange}
 use Rattle.svd_values.proofs.Fronts.{both_true}
 use Rattle.svd_values.proofs.Ranges.{then_some, none_some, digits_exactly, takes_until, again_until}
 use Rattle.svd_values.proofs.Spelling.{same_number}
@@ -91,9 +89,3 @@ again_letters text first last is =
 
 pub letters_exactly : (text : List ℕ) (first last : ℕ) → (read_letters text ≡ Some (first, last)) ↔ IsLetterRange text first last
 letters_exactly text first last = (takes_letters text first last, again_letters text first last)
-
--- a text that is no range and no list gives no index
-pub no_index : (text : List ℕ) → None ≡ read_numbers text → None ≡ read_letters text → ((words : List (List ℕ)) → IsWordList text words → ⊥) → (index : DimIndex) → IsIndex text index → ⊥
-no_index text numbers letters words (Numbers first last) is = none_some {A = ℕ × ℕ} (first, last) (numbers ∙ again_numbers text first last is)
-no_index text numbers letters words (Letters first last) is = none_some {A = ℕ × ℕ} (first, last) (letters ∙ again_letters text first last is)
-no_index text numbers letters words (Words list) is = words list is

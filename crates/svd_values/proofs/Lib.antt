@@ -1,9 +1,10 @@
 pub mod CallNames
+pub mod Exactly
 pub mod Fronts
-pub mod Givens
 pub mod Identifiers
 pub mod IndexRanges
-pub mod Meanings
+pub mod Indexing
+pub mod Parts
 pub mod Ranges
 pub mod Reading
 pub mod Spelling

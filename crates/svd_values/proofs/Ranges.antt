@@ -9,9 +9,10 @@ use Rattle.svd_values.specs.declared.numeral.Digits.TheVariants.{Decimal}
 use Rattle.svd_values.specs.declared.place.Place.{Place}
 use Rattle.svd_values.specs.Numbers.{is_digit, IsWritten}
 use Rattle.svd_values.specs.Readers.{bounded, read_digits, value_before, read_until, behind, place_at_end, read_place}
+use Rattle.svd_values.specs.Meanings.{HasOnePlace}
 use Rattle.svd_values.specs.Places.{place_between, IsBitRange, IsPlace}
 use Rattle.svd_values.proofs.Fronts.{front_of, front_is}
-use Rattle.svd_values.proofs.Spelling.{takes_written, again_written, bounded_exactly, same_number}
+use Rattle.svd_values.proofs.Spelling.{takes_written, again_written, bounded_exactly, same_number, same_value}
 
 -- what a chain of options gives, link by link
 pub then_some : {A B : Type 0} (next : A → Option B) (first : Option A) (value : B) → option_and_then next first ≡ Some value → (link : A) × (first ≡ Some link) × (next link ≡ Some value)
@@ -129,8 +130,8 @@ again_range text msb lsb is =
     below_too : (a b : ℕ) → a < 2 ^ 64 → b ≤ a → b < 2 ^ 64
     below_too a b h k = omega arith
 
-pub place_exactly : (text : List ℕ) (answer : Option Place) → answer ≡ read_place text → (place : Place) → (answer ≡ Some place) ↔ IsPlace text place
-place_exactly text answer is place = (
-  (λ e. takes_place text place (sym is ∙ e)),
-  (λ p. is ∙ (again_range text p.msb p.lsb p.range ∙ ap Some (sym p.is))),
-)
+pub place_exactly : (text : List ℕ) (place : Place) → (read_place text ≡ Some place) ↔ IsPlace text place
+place_exactly text place = (takes_place text place, λ p. again_range text p.msb p.lsb p.range ∙ ap Some (sym p.is))
+
+pub one_place : (text : List ℕ) → HasOnePlace text
+one_place text place other is also = same_value place other (sym ((place_exactly text place).1 is) ∙ (place_exactly text other).1 also)

@@ -7,8 +7,9 @@ use Rattle.std.proofs.lemmas.Bool.Decides.{nat_tests}
 use Rattle.std.proofs.lemmas.Bool.{ltb-true, ltb-false}
 use Rattle.std.proofs.Math.Nat.{pow-suc, pow-zero}
 use Rattle.svd_values.specs.declared.numeral.Digits.{Digits}
-use Rattle.svd_values.specs.declared.numeral.Digits.TheVariants.{Decimal, Hexadecimal}
-use Rattle.svd_values.specs.Numbers.{base_of, digit_of, is_digit, sum_of, IsWritten, IsUnsigned, IsNumber}
+use Rattle.svd_values.specs.declared.numeral.Digits.TheVariants.{Decimal, Hexadecimal, Binary, BinaryOrAny}
+use Rattle.svd_values.specs.Numbers.{base_of, digit_of, is_digit, sum_of, IsWritten, IsUnsigned, IsNumber, IsWholeNumber, IsValueBits}
+use Rattle.svd_values.specs.Forms.{number_of, bits_of}
 use Rattle.svd_values.specs.Numbers.IsUnsigned.{decimal, hexadecimal, bits}
 use Rattle.svd_values.specs.Readers.{read_on, bounded, read_digits, split_mark, without_plus, read_unsigned, read_number}
 
@@ -194,9 +195,23 @@ unfolding read_number without_plus
 again_number twos text value (inl is) = ap (read_unsigned twos) (no_plus twos text value is) ∙ again_unsigned twos text value is
 again_number twos text value (inr is) = rw is.whole (again_unsigned twos is.behind value is.number)
 
-pub number_exactly : (twos : Digits) (text : List ℕ) (answer : Option ℕ) → answer ≡ bounded (read_number twos text) → (value : ℕ) → (answer ≡ Some value) ↔ (IsNumber twos text value × (value < 2 ^ 64))
-number_exactly twos text answer is value =
-    let exactly : (bounded (read_number twos text) ≡ Some value) ↔ ((read_number twos text ≡ Some value) × (value < 2 ^ 64)) = bounded_exactly (read_number twos text) value in (
-      (λ e. let r = exactly.0 (sym is ∙ e) in (takes_number twos text value r.0, r.1)),
-      (λ n. is ∙ exactly.1 (again_number twos text value n.0, n.1)),
+number_exactly : (twos : Digits) (text : List ℕ) (value : ℕ) → (bounded (read_number twos text) ≡ Some value) ↔ (IsNumber twos text value × (value < 2 ^ 64))
+number_exactly twos text value =
+    let exactly = bounded_exactly (read_number twos text) value in (
+      (λ e. let r = exactly.0 e in (takes_number twos text value r.0, r.1)),
+      (λ n. exactly.1 (again_number twos text value n.0, n.1)),
     )
+
+pub number_of-exactly : (text : List ℕ) (value : ℕ) → (number_of text ≡ Some value) ↔ (IsWholeNumber text value × (value < 2 ^ 64))
+unfolding number_of
+number_of-exactly = number_exactly Binary
+
+pub bits_of-exactly : (text : List ℕ) (value : ℕ) → (bits_of text ≡ Some value) ↔ (IsValueBits text value × (value < 2 ^ 64))
+unfolding bits_of
+bits_of-exactly = number_exactly BinaryOrAny
+
+pub same_value : {A : Type 0} (one other : A) → ◌≡◌ {A = Option A} (Some one) (Some other) → one ≡ other
+same_value one other is = cc
+
+pub one_number : (twos : Digits) (text : List ℕ) (value other : ℕ) → IsNumber twos text value → IsNumber twos text other → value ≡ other
+one_number twos text value other is also = same_value value other (sym (again_number twos text value is) ∙ again_number twos text other also)

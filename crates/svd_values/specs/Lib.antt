@@ -1,5 +1,5 @@
 pub mod AccessorNames
-pub mod Given
+pub mod Forms
 pub mod Identifiers
 pub mod Indexes
 pub mod Meanings

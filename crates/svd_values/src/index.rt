@@ -1,16 +1,15 @@
-ghost use Rattle.std.specs.Prelude.{◌≡◌, ◌≢◌, ◌↔◌, ◌≤◌, ℕ, [], length, drop, slice_get, List, MatchResult, MatchOption, IfOk, IsErrOf};
-ghost use Rattle.std.specs.List.{prefix_len};
-ghost use Rattle.pac_base.specs.Names.{is_word_byte, IsWord};
-ghost use Rattle.svd_values.specs.Readers.{read_numbers, read_letters, letters_rise, skip_white};
-ghost use Rattle.svd_values.specs.Indexes.{IsNumberRange, IsLetterRange, is_white, IsFullWord, IsWordList, IsIndex};
-ghost use Rattle.svd_values.specs.declared.index.DimIndex.{DimIndex as DimIndexOf};
-ghost use Rattle.svd_values.specs.declared.index.IndexFault.TheVariants.{Memory};
+ghost use Rattle.std.specs.Prelude.{◌≡◌, ◌≤◌, length, IfOk, option_map};
+ghost use Rattle.std.specs.List.{list_all, prefix_len};
+ghost use Rattle.pac_base.specs.Names.{is_word_byte};
+ghost use Rattle.svd_values.specs.Forms.{index_of, is_full_word, kept_by, words_of};
+ghost use Rattle.svd_values.specs.Indexes.{is_white};
+ghost use Rattle.svd_values.specs.Readers.{letters_rise, read_letters, read_numbers, skip_white};
 
 use crate::call_name::{is_word_byte, named};
 use crate::numeral::{Digits, number_until, value_of};
+use crate::part::first_part;
 use pac_base::{Name, NoMemory, Seq};
-use std::alloc::{AllocError, AllocFailed, Global};
-use thiserror::Error;
+use std::alloc::Global;
 
 /// The words of an index list, seen as a list of names.
 pub type Words = Seq<Name>;
@@ -24,41 +23,6 @@ pub enum DimIndex {
     Letters { first: u8, last: u8 },
     /// These words.
     Words(Words),
-}
-
-/// Why a text gave no index.
-#[derive(Debug, Drop, Error)]
-pub enum IndexFault {
-    /// The text is no range of numbers or letters that rises and no list of words.
-    #[error("not an index")]
-    NotAnIndex,
-    /// Memory was wanting.
-    #[error("out of memory")]
-    Memory,
-}
-
-impl From<NoMemory> for IndexFault {
-    ghost from_gives = { λ _ fault. fault ≡ Memory };
-
-    fn from(_error: NoMemory) -> IndexFault {
-        IndexFault::Memory
-    }
-}
-
-impl From<AllocError> for IndexFault {
-    ghost from_gives = { λ _ fault. fault ≡ Memory };
-
-    fn from(_error: AllocError) -> IndexFault {
-        IndexFault::Memory
-    }
-}
-
-impl<T: Drop> From<AllocFailed<T>> for IndexFault {
-    ghost from_gives = { λ _ fault. fault ≡ Memory };
-
-    fn from(_error: AllocFailed<T>) -> IndexFault {
-        IndexFault::Memory
-    }
 }
 
 // The two ends of a range of decimal numbers.
@@ -94,12 +58,10 @@ fn letter_range(text: &[u8]) -> Option<(u8, u8)>
     }
 }
 
-// How many bytes at the front are letters, digits or `_`.
-fn word_len(text: &[u8]) -> usize
-    ensures count { result ≡ prefix_len is_word_byte text.now }
-    ensures within { result ≤ length text.now }
+fn is_white(byte: u8) -> bool
+    ensures { result ≡ is_white byte }
 {
-    text.iter().take_while(|byte| is_word_byte(**byte)).count()
+    matches!(byte, b' ' | b'\t' | b'\r' | b'\n')
 }
 
 // How many bytes at the front are white space.
@@ -110,70 +72,70 @@ fn white_len(text: &[u8]) -> usize
     text.iter().take_while(|byte| is_white(**byte)).count()
 }
 
-fn is_white(byte: u8) -> bool
-    ensures { result ≡ is_white byte }
-{
-    matches!(byte, b' ' | b'\t' | b'\r' | b'\n')
-}
-
-// The text behind a comma and the white space there; None where the text is empty, and a fault
-// where it begins with anything else.
+// What stands behind a comma, from its first byte on that is no white space.
 #[tactic(auto, unfolding(crate::specs::Readers::skip_white))]
-fn behind_comma(text: &[u8]) -> Result<Option<&[u8]>, IndexFault>
-    ensures { MatchResult result
-        (λ next. MatchOption next (text.now ≡ [])
-        (λ rest. rest.now ≡ skip_white (drop 1 text.now) × (slice_get text.now 0 ≡ Some 44)))
-        (λ fault. (fault ≡ IndexFault.NotAnIndex) × (text.now ≢ []) × (slice_get text.now 0 ≢ Some 44)) }
+fn skip_white(text: Option<&[u8]>) -> Option<&[u8]>
+    ensures { option_map (λ rest. rest.now) result ≡ option_map skip_white (option_map (λ rest. rest.now) text.entry) }
 {
-    match text {
-        [] => Ok(None),
-        [b',', rest @ ..] => Ok(Some(rest.split_at(white_len(rest)).1)),
-        _ => Err(IndexFault::NotAnIndex),
+    let text = text?;
+    Some(text.split_at(white_len(text)).1)
+}
+
+fn are_word_bytes(word: &[u8]) -> bool
+    ensures { result ≡ list_all is_word_byte word.now }
+{
+    word.iter().all(|byte| is_word_byte(*byte))
+}
+
+fn is_full_word(word: &[u8]) -> bool
+    ensures { result ≡ is_full_word word.now }
+{
+    match word {
+        [] => false,
+        [_, ..] => are_word_bytes(word),
     }
 }
 
-// The name that the word at the front of a list is.
-fn first_name(alloc: Global, word: &[u8]) -> Result<Name, IndexFault>
-    requires { IsWord word.now }
-    ensures { MatchResult result
-        (λ name. (name ≡ word.now) × IsFullWord word.now)
-        (λ fault. fault ≡ IndexFault.NotAnIndex → word.now ≡ []) }
+fn full_word(alloc: Global, word: &[u8]) -> Result<Option<Name>, NoMemory>
+    ensures { IfOk result (λ made. made ≡ kept_by is_full_word word.now) }
 {
-    if word.is_empty() {
-        return Err(IndexFault::NotAnIndex);
+    if !is_full_word(word) {
+        return Ok(None);
     }
-    Ok(named(alloc, word)?)
+    Ok(Some(named(alloc, word)?))
 }
 
-// The words of a list.
-fn words(alloc: Global, text: &[u8]) -> Result<Words, IndexFault>
-    ensures { MatchResult result (IsWordList text.now)
-        (λ fault. fault ≡ IndexFault.NotAnIndex → (words : List (List ℕ)) → ¬ (IsWordList text.now words)) }
+// Words parted by commas.
+fn words(alloc: Global, text: &[u8]) -> Result<Option<Words>, NoMemory>
+    ensures { IfOk result (λ made. made ≡ words_of text.now) }
 {
     let mut words = Words::new(alloc);
-    let mut rest = text;
-    'words: loop {
-        let (word, after) = rest.split_at(word_len(rest));
-        words.push(first_name(alloc, word)?)?;
-        match behind_comma(after)? {
-            None => return Ok(words),
-            Some(next) => rest = next,
-        }
+    let mut rest = Some(text);
+    'words: while let Some(left) = rest {
+        let (part, after) = first_part(left, b',');
+        let Some(word) = full_word(alloc, part)? else {
+            return Ok(None);
+        };
+        words.push(word)?;
+        rest = skip_white(after);
     }
+    Ok(Some(words))
 }
 
 /// The indexes that the text gives: a range of numbers as `0-7`, a range of letters of one case as
-/// `A-D`, or words parted by commas. `NotAnIndex` exactly where the text is none of these or the
-/// range falls.
-pub fn dim_index(alloc: Global, text: &[u8]) -> Result<DimIndex, IndexFault>
-    ensures ok { IfOk result (IsIndex text.now) }
-    ensures refused { IsErrOf result IndexFault.NotAnIndex → (index : DimIndexOf) → ¬ (IsIndex text.now index) }
+/// `A-D`, or words parted by commas. None where the text is none of these or the range falls.
+#[tactic(auto, unfolding(crate::specs::Forms::index_of))]
+pub fn dim_index(alloc: Global, text: &[u8]) -> Result<Option<DimIndex>, NoMemory>
+    ensures { IfOk result (λ made. made ≡ index_of text.now) }
 {
     if let Some((first, last)) = number_range(text) {
-        return Ok(DimIndex::Numbers { first, last });
+        return Ok(Some(DimIndex::Numbers { first, last }));
     }
     if let Some((first, last)) = letter_range(text) {
-        return Ok(DimIndex::Letters { first, last });
+        return Ok(Some(DimIndex::Letters { first, last }));
     }
-    Ok(DimIndex::Words(words(alloc, text)?))
+    match words(alloc, text)? {
+        Some(words) => Ok(Some(DimIndex::Words(words))),
+        None => Ok(None),
+    }
 }

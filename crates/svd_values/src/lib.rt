@@ -7,18 +7,17 @@ mod call_name;
 mod index;
 mod meaning;
 mod numeral;
+mod part;
 mod place;
 mod schema_word;
-mod table;
 
 pub use call_name::{accessor, is_call, slot_name, variant_call};
-pub use index::{DimIndex, IndexFault, Words, dim_index};
-pub use meaning::{
-    bit_range_has_one_meaning, dim_index_has_one_meaning, names_are_identifiers,
-    number_has_one_meaning, value_bits_has_one_meaning,
-};
-pub use numeral::{number, value_bits};
+pub use index::{DimIndex, Words, dim_index};
+pub use meaning::{forms_law, names_are_identifiers};
+pub use numeral::{number, unit_bits, value_bits};
+pub use part::{element_name, element_path, is_label, label};
 pub use place::{Place, bit_range};
 pub use schema_word::{
-    Access, ReadAction, Usage, WriteKind, access_word, read_action, usage_word, write_kind,
+    Access, ReadAction, Usage, WriteKind, access_word, flag_word, read_action, usage_word,
+    write_kind,
 };

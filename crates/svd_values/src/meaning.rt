@@ -1,33 +1,16 @@
+ghost use Rattle.std.specs.Prelude.{ℕ, List};
 ghost use Rattle.svd_values.specs.Identifiers.{AccessorsAreCallNames, MarkersAreIdentifiers, MarkersTell, SlotsAreIdentifiers, TestsAreCallNames, VariantsAreCallNames};
-ghost use Rattle.svd_values.specs.Meanings.{HasOneNumber, HasOneValue, HasOnePlace, HasOneIndex};
+ghost use Rattle.svd_values.specs.Meanings.{FormsAreMeant, HasOneNumber, HasOneValue, HasOnePlace, HasOneIndex};
 
-/// A law: no text is a number of two values.
-pub fn number_has_one_meaning(text: &[u8])
-    ensures { HasOneNumber text.now }
-{
-    let _ = text;
-}
-
-/// A law: no text gives an enumerated value two values.
-pub fn value_bits_has_one_meaning(text: &[u8])
-    ensures { HasOneValue text.now }
-{
-    let _ = text;
-}
-
-/// A law: no text gives two places.
-pub fn bit_range_has_one_meaning(text: &[u8])
-    ensures { HasOnePlace text.now }
-{
-    let _ = text;
-}
-
-/// A law: no text gives two indexes.
-pub fn dim_index_has_one_meaning(text: &[u8])
-    ensures { HasOneIndex text.now }
-{
-    let _ = text;
-}
+/// A law: the forms of values are those that the schema gives, and no text is a number, a value, a
+/// place or an index of two meanings.
+pub fn forms_law()
+    ensures meant { FormsAreMeant }
+    ensures one_number { (text : List ℕ) → HasOneNumber text }
+    ensures one_value { (text : List ℕ) → HasOneValue text }
+    ensures one_place { (text : List ℕ) → HasOnePlace text }
+    ensures one_index { (text : List ℕ) → HasOneIndex text }
+{}
 
 /// A law: the names of a generated crate are identifiers, and no call has a name of the prelude or of a gap.
 pub fn names_are_identifiers()

@@ -1,7 +1,8 @@
-ghost use Rattle.std.specs.Prelude.{◌≡◌, ◌↔◌, ◌≤◌, ◌<◌, ◌+◌, ◌*◌, ◌^◌, ◌⊎◌, ℕ, length, MatchOption, SomeIff};
+ghost use Rattle.std.specs.Prelude.{◌≡◌, ◌≤◌, ◌<◌, ◌+◌, ◌*◌, ◌^◌, ◌⊎◌, length, MatchOption, SomeIff};
 ghost use Rattle.std.specs.List.{prefix_len};
 ghost use Rattle.std.specs.Option.{option_map, option_copied};
-ghost use Rattle.svd_values.specs.Numbers.{base_of, digit_of, is_digit, IsWholeNumber, IsValueBits};
+ghost use Rattle.svd_values.specs.Forms.{bits_of, number_of, unit_of};
+ghost use Rattle.svd_values.specs.Numbers.{base_of, digit_of, is_digit};
 ghost use Rattle.svd_values.specs.Readers.{read_digits, read_unsigned, bounded, split_mark, without_plus, read_until, behind};
 ghost use Rattle.svd_values.specs.declared.numeral.Digits.TheVariants.{Decimal, Binary, BinaryOrAny};
 
@@ -97,18 +98,29 @@ fn unsigned(text: &[u8], binary: Digits) -> Option<u64>
 /// The value of a whole number: an optional `+`, then decimal digits, or `0x` or `0X` and
 /// hexadecimal digits, or `#`, `0b` or `0B` and binary digits. None where the text is none of these
 /// or its value is 2^64 or more.
+#[tactic(auto, unfolding(crate::specs::Forms::number_of, crate::specs::Readers::read_number))]
 pub fn number(text: &[u8]) -> Option<u64>
-    ensures { (value : ℕ) → (result ≡ Some value) ↔ (IsWholeNumber text.now value × (value < 2 ^ 64)) }
+    ensures { result ≡ number_of text.now }
 {
     unsigned(without_plus(text), Digits::Binary)
 }
 
 /// The value of an enumerated value: a whole number as `number` reads it, where `x` or `X` among
 /// binary digits counts as 0.
+#[tactic(auto, unfolding(crate::specs::Forms::bits_of, crate::specs::Readers::read_number))]
 pub fn value_bits(text: &[u8]) -> Option<u64>
-    ensures { (value : ℕ) → (result ≡ Some value) ↔ (IsValueBits text.now value × (value < 2 ^ 64)) }
+    ensures { result ≡ bits_of text.now }
 {
     unsigned(without_plus(text), Digits::BinaryOrAny)
+}
+
+/// The bits of an address unit: 8. None where the text is another number or none.
+#[tactic(auto, unfolding(crate::specs::Forms::unit_of))]
+pub fn unit_bits(text: &[u8]) -> Option<u64>
+    ensures { result ≡ unit_of text.now }
+{
+    let bits = number(text)?;
+    if bits == 8 { Some(bits) } else { None }
 }
 
 // How many decimal digits stand at the front.

@@ -1,7 +1,6 @@
-ghost use Rattle.std.specs.Prelude.{◌≡◌, ◌↔◌};
-ghost use Rattle.svd_values.specs.Readers.{read_place, place_at_end};
-ghost use Rattle.svd_values.specs.Places.{IsPlace};
-ghost use Rattle.svd_values.specs.declared.place.Place.{Place as PlaceOf};
+ghost use Rattle.std.specs.Prelude.{◌≡◌};
+ghost use Rattle.svd_values.specs.Forms.{range_of};
+ghost use Rattle.svd_values.specs.Readers.{place_at_end};
 
 use crate::numeral::{behind, number_until};
 
@@ -17,15 +16,9 @@ pub struct Place {
 
 /// The place that `[msb:lsb]` gives, in decimal digits below 2^64. None where the text isn't that or
 /// `msb` lies below `lsb`.
+#[tactic(auto, unfolding(crate::specs::Forms::range_of, crate::specs::Readers::read_place))]
 pub fn bit_range(text: &[u8]) -> Option<Place>
-    ensures { (place : PlaceOf) → (result ≡ Some place) ↔ IsPlace text.now place }
-{
-    read_place(text)
-}
-
-#[tactic(auto, unfolding(crate::specs::Readers::read_place))]
-fn read_place(text: &[u8]) -> Option<Place>
-    ensures { result ≡ read_place text.now }
+    ensures { result ≡ range_of text.now }
 {
     let (msb, after) = number_until(behind(text, b'[')?, b':')?;
     let (lsb, rest) = number_until(after, b']')?;

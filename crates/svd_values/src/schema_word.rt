@@ -1,12 +1,5 @@
-ghost use Rattle.std.specs.Prelude.{◌≡◌, ◌↔◌};
-ghost use Rattle.svd_values.specs.SchemaWords.{access_text, write_kind_text, read_action_text, usage_text};
-ghost use Rattle.svd_values.specs.declared.schema_word.Access.{Access as AccessOf};
-ghost use Rattle.svd_values.specs.declared.schema_word.WriteKind.{WriteKind as WriteKindOf};
-ghost use Rattle.svd_values.specs.declared.schema_word.ReadAction.{ReadAction as ReadActionOf};
-ghost use Rattle.svd_values.specs.declared.schema_word.Usage.{Usage as UsageOf};
-
-use crate::table::value_in;
-use case_table::CaseRow;
+ghost use Rattle.std.specs.Prelude.{◌≡◌};
+ghost use Rattle.svd_values.specs.Forms.{access_of, action_of, flag_of, kind_of, usage_of};
 
 /// Which accesses a register or field takes (CMSIS-SVD 1.3, `access`).
 #[derive(Clone, Copy, Debug, PartialEq, Eq)]
@@ -70,65 +63,82 @@ pub enum Usage {
     ReadWrite,
 }
 
-// The value of the row that has the text. The rows stand in rising order of their words, and are
-// numbered from 0.
-macro_rules! value_named {
-    ($text:expr, $count:literal; $($code:literal $word:literal => $value:expr),* $(,)?) => {{
-        let rows = [$(CaseRow { word: $word, code: $code }),*];
-        let values = [$($value),*];
-        value_in::<_, $count>(&rows, &values, $text)
+// The value of the word that the text is.
+macro_rules! value_of_word {
+    ($text:expr; $($word:literal => $value:expr,)*) => {{
+        $(if $text == $word.as_slice() {
+            return Some($value);
+        })*
+        None
     }};
 }
 
 /// The access that the text names; None where it is none of the words.
+#[tactic(auto, unfolding(crate::specs::Forms::access_of, crate::specs::Forms::written_as))]
 pub fn access_word(text: &[u8]) -> Option<Access>
-    ensures { (value : AccessOf) → (result ≡ Some value) ↔ (text.now ≡ access_text value) }
+    ensures { result ≡ access_of text.now }
 {
-    value_named!(text, 5;
-        0 "read-only" => Access::ReadOnly,
-        1 "read-write" => Access::ReadWrite,
-        2 "read-writeOnce" => Access::ReadWriteOnce,
-        3 "write-only" => Access::WriteOnly,
-        4 "writeOnce" => Access::WriteOnce,
+    value_of_word!(text;
+        b"read-only" => Access::ReadOnly,
+        b"write-only" => Access::WriteOnly,
+        b"read-write" => Access::ReadWrite,
+        b"writeOnce" => Access::WriteOnce,
+        b"read-writeOnce" => Access::ReadWriteOnce,
     )
 }
 
 /// The effect of a write that the text names; None where it is none of the words.
+#[tactic(auto, unfolding(crate::specs::Forms::kind_of, crate::specs::Forms::written_as))]
 pub fn write_kind(text: &[u8]) -> Option<WriteKind>
-    ensures { (value : WriteKindOf) → (result ≡ Some value) ↔ (text.now ≡ write_kind_text value) }
+    ensures { result ≡ kind_of text.now }
 {
-    value_named!(text, 9;
-        0 "clear" => WriteKind::Clear,
-        1 "modify" => WriteKind::Modify,
-        2 "oneToClear" => WriteKind::OneToClear,
-        3 "oneToSet" => WriteKind::OneToSet,
-        4 "oneToToggle" => WriteKind::OneToToggle,
-        5 "set" => WriteKind::Set,
-        6 "zeroToClear" => WriteKind::ZeroToClear,
-        7 "zeroToSet" => WriteKind::ZeroToSet,
-        8 "zeroToToggle" => WriteKind::ZeroToToggle,
+    value_of_word!(text;
+        b"oneToClear" => WriteKind::OneToClear,
+        b"oneToSet" => WriteKind::OneToSet,
+        b"oneToToggle" => WriteKind::OneToToggle,
+        b"zeroToClear" => WriteKind::ZeroToClear,
+        b"zeroToSet" => WriteKind::ZeroToSet,
+        b"zeroToToggle" => WriteKind::ZeroToToggle,
+        b"clear" => WriteKind::Clear,
+        b"set" => WriteKind::Set,
+        b"modify" => WriteKind::Modify,
     )
 }
 
 /// The effect of a read that the text names; None where it is none of the words.
+#[tactic(auto, unfolding(crate::specs::Forms::action_of, crate::specs::Forms::written_as))]
 pub fn read_action(text: &[u8]) -> Option<ReadAction>
-    ensures { (value : ReadActionOf) → (result ≡ Some value) ↔ (text.now ≡ read_action_text value) }
+    ensures { result ≡ action_of text.now }
 {
-    value_named!(text, 4;
-        0 "clear" => ReadAction::Clear,
-        1 "modify" => ReadAction::Modify,
-        2 "modifyExternal" => ReadAction::ModifyExternal,
-        3 "set" => ReadAction::Set,
+    value_of_word!(text;
+        b"clear" => ReadAction::Clear,
+        b"set" => ReadAction::Set,
+        b"modify" => ReadAction::Modify,
+        b"modifyExternal" => ReadAction::ModifyExternal,
     )
 }
 
 /// The usage that the text names; None where it is none of the words.
+#[tactic(auto, unfolding(crate::specs::Forms::usage_of, crate::specs::Forms::written_as))]
 pub fn usage_word(text: &[u8]) -> Option<Usage>
-    ensures { (value : UsageOf) → (result ≡ Some value) ↔ (text.now ≡ usage_text value) }
+    ensures { result ≡ usage_of text.now }
 {
-    value_named!(text, 3;
-        0 "read" => Usage::Read,
-        1 "read-write" => Usage::ReadWrite,
-        2 "write" => Usage::Write,
+    value_of_word!(text;
+        b"read" => Usage::Read,
+        b"write" => Usage::Write,
+        b"read-write" => Usage::ReadWrite,
+    )
+}
+
+/// What `true`, `1`, `false` or `0` says; None where the text is none of them.
+#[tactic(auto, unfolding(crate::specs::Forms::flag_of))]
+pub fn flag_word(text: &[u8]) -> Option<bool>
+    ensures { result ≡ flag_of text.now }
+{
+    value_of_word!(text;
+        b"true" => true,
+        b"1" => true,
+        b"false" => false,
+        b"0" => false,
     )
 }

@@ -1,13 +1,16 @@
 -- The rest is a name, or the name stays.
-use Rattle.std.proofs.Common.{Err, ap}
-use Rattle.patch_names.proofs.Stripped.{rest-isnt, rest-none, rest-some}
+use Rattle.std.proofs.Common.{◌≡◌, ℕ, List, Option}
+use Rattle.std.specs.Prelude.{unwrap_or}
+use Rattle.std.proofs.lemmas.Result.{IfOk-weaker}
+use Rattle.svd_values.specs.Forms.{name_of}
+use Rattle.patch_sem.specs.Stripping.{stripped}
+use Rattle.patch_names.proofs.Stripped.{rest-kept, rest-none}
 use Rattle.patch_names.proofs.naming.rest_of.Goals as goal
 
-pub returns-in_default : goal.returns-in_default
-returns-in_default c = rest-none c.args.prefix.now c.args.name.now c.bytes.result.now c.bytes.ensures.same c.in_default.ensures
+pub returns-in-Some : goal.returns-in-Some
+returns-in-Some c =
+    IfOk-weaker c.element_name.result (λ (made : Option (List ℕ)). made ≡ name_of c.in-Some.rest.now) (λ (made : Option (List ℕ)). unwrap_or made c.args.name.now ≡ stripped c.args.prefix.now c.args.name.now)
+    (λ made given. rest-kept c.args.prefix.now c.args.name.now c.bytes.result.now c.in-Some.rest.now made c.bytes.ensures.same c.in-Some.ensures given) c.element_name.ensures
 
-pub returns-in-Ok : goal.returns-in-Ok
-returns-in-Ok c = rest-some c.args.prefix.now c.args.name.now c.bytes.result.now c.in-Some.rest.now c.in-Ok.made c.bytes.ensures.same c.in-Some.ensures c.in-Ok.ensures.ok.0 c.in-Ok.ensures.ok.1
-
-pub returns-in-Err-NotAName : goal.returns-in-Err-NotAName
-returns-in-Err-NotAName c = rest-isnt c.args.prefix.now c.args.name.now c.bytes.result.now c.in-Some.rest.now c.bytes.ensures.same c.in-Some.ensures (c.in-Err-NotAName.ensures.refused.0 (ap Err c.in-Err-NotAName.field-0-is))
+pub returns-in-None : goal.returns-in-None
+returns-in-None c = rest-none c.args.prefix.now c.args.name.now c.bytes.result.now c.bytes.ensures.same c.in-None.ensures

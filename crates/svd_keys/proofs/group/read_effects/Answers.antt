@@ -3,7 +3,7 @@ use Rattle.svd_schema.specs.declared.key.Key.TheVariants as key
 use Rattle.svd_text.specs.Views.{element_of}
 use Rattle.svd_keys.specs.declared.fault.BadKind.TheVariants as bad
 use Rattle.svd_keys.specs.Earliest.{earliest}
-use Rattle.svd_keys.specs.Forms.{kind_of, action_of}
+use Rattle.svd_values.specs.Forms.{kind_of, action_of}
 use Rattle.svd_keys.specs.OwnFaults.{effect_faults}
 use Rattle.svd_keys.specs.Values.{key_faults}
 use Rattle.svd_keys.proofs.Orders.{earliest-gather}

@@ -3,7 +3,7 @@ use Rattle.svd_schema.specs.declared.key.Key.TheVariants as key
 use Rattle.svd_text.specs.Views.{element_of}
 use Rattle.svd_keys.specs.declared.fault.BadKind.TheVariants as bad
 use Rattle.svd_keys.specs.Earliest.{earliest, least}
-use Rattle.svd_keys.specs.Forms.{number_of, range_of}
+use Rattle.svd_values.specs.Forms.{number_of, range_of}
 use Rattle.svd_keys.specs.Places.{place_of, place_with, place_faults, form_faults}
 use Rattle.svd_keys.specs.Values.{value_of, key_faults}
 use Rattle.svd_keys.proofs.Orders.{earliest-gather}

@@ -4,7 +4,7 @@ use Rattle.svd_text.specs.Views.{element_of}
 use Rattle.svd_keys.specs.declared.fault.BadKind.TheVariants.{Word}
 use Rattle.svd_keys.specs.Children.{child, strays, when}
 use Rattle.svd_keys.specs.Earliest.{least}
-use Rattle.svd_keys.specs.Forms.{action_of}
+use Rattle.svd_values.specs.Forms.{action_of}
 use Rattle.svd_keys.specs.Values.{bad_value}
 use Rattle.svd_keys.proofs.KeyReads.{absent, none_is, present}
 use Rattle.svd_keys.proofs.read.action_key.Goals as goal
@@ -15,7 +15,7 @@ returns-in-None c =
 
 pub returns-in-Some : goal.returns-in-Some
 returns-in-Some c =
-    present action_of Word c.args.key (element_of c.args.element.now) (element_of c.in-Some.found.now) c.action-value.result c.key_fault-fault.result
+    present action_of Word c.args.key (element_of c.args.element.now) (element_of c.in-Some.found.now) c.read_action-value.result c.key_fault-fault.result
     (c.in-Some.ensures ∙ ap (λ name. child name (element_of c.args.element.now)) c.name.ensures)
-    (c.action-value.ensures ∙ ap action_of c.value_text.ensures)
-    (c.key_fault-fault.ensures ∙ ap (λ bad. least (strays (key_name c.args.key) (element_of c.args.element.now) ++ when bad (bad_value Word (element_of c.in-Some.found.now)))) (none_is c.action-value.result c.is_none.result c.is_none.ensures))
+    (c.read_action-value.ensures ∙ ap action_of c.value_text.ensures)
+    (c.key_fault-fault.ensures ∙ ap (λ bad. least (strays (key_name c.args.key) (element_of c.args.element.now) ++ when bad (bad_value Word (element_of c.in-Some.found.now)))) (none_is c.read_action-value.result c.is_none.result c.is_none.ensures))

@@ -4,7 +4,7 @@ use Rattle.svd_text.specs.Views.{element_of}
 use Rattle.svd_keys.specs.declared.fault.BadKind.TheVariants.{Name}
 use Rattle.svd_keys.specs.Children.{child, strays, when}
 use Rattle.svd_keys.specs.Earliest.{least}
-use Rattle.svd_keys.specs.Forms.{name_of}
+use Rattle.svd_values.specs.Forms.{name_of}
 use Rattle.svd_keys.specs.Values.{bad_value}
 use Rattle.svd_keys.proofs.KeyReads.{absent, none_is, present}
 use Rattle.svd_keys.proofs.read.name_key.Goals as goal

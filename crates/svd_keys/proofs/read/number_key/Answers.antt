@@ -4,7 +4,7 @@ use Rattle.svd_text.specs.Views.{element_of}
 use Rattle.svd_keys.specs.declared.fault.BadKind.TheVariants.{Number}
 use Rattle.svd_keys.specs.Children.{child, strays, when}
 use Rattle.svd_keys.specs.Earliest.{least}
-use Rattle.svd_keys.specs.Forms.{number_of}
+use Rattle.svd_values.specs.Forms.{number_of}
 use Rattle.svd_keys.specs.Values.{bad_value}
 use Rattle.svd_keys.proofs.KeyReads.{absent, none_is, present}
 use Rattle.svd_keys.proofs.read.number_key.Goals as goal

@@ -6,7 +6,7 @@ use Rattle.svd_text.specs.Views.{element_of}
 use Rattle.svd_keys.specs.declared.fault.BadKind.TheVariants as bad
 use Rattle.svd_keys.specs.Children.{double_of}
 use Rattle.svd_keys.specs.Earliest.{earliest, least}
-use Rattle.svd_keys.specs.Forms.{unit_of, label_of}
+use Rattle.svd_values.specs.Forms.{unit_of, label_of}
 use Rattle.svd_keys.specs.KeysOf.{keys_of}
 use Rattle.svd_keys.specs.OwnFaults.{property_faults, row_faults}
 use Rattle.svd_keys.specs.Values.{key_faults}

@@ -3,7 +3,7 @@ use Rattle.svd_schema.specs.declared.key.Key.TheVariants as key
 use Rattle.svd_text.specs.Views.{element_of}
 use Rattle.svd_keys.specs.declared.fault.BadKind.TheVariants as bad
 use Rattle.svd_keys.specs.Earliest.{earliest}
-use Rattle.svd_keys.specs.Forms.{usage_of}
+use Rattle.svd_values.specs.Forms.{usage_of}
 use Rattle.svd_keys.specs.KeysOf.{keys_of}
 use Rattle.svd_keys.specs.OwnFaults.{name_faults, source_faults, row_faults}
 use Rattle.svd_keys.specs.Values.{key_faults}

@@ -1,37 +1,40 @@
-use Rattle.std.proofs.Common.{◌<◌, sym, subst, length, drop}
-use Rattle.std.proofs.lemmas.Result.{err_from_is_err_and}
-use Rattle.pac_base.specs.Names.{is_word_byte}
-use Rattle.svd_values.proofs.WordLists.{front_at, read_more, read_nothing, no_word, no_comma, shorter, comma_first}
+use Rattle.std.proofs.Common.{ap, refl, sym, ◌∙◌, List, ℕ, Bor}
+use Rattle.std.specs.Prelude.{option_map}
+use Rattle.svd_values.specs.Forms.{after_commas, is_full_word, parts_left, parts_of, words_of}
+use Rattle.svd_values.specs.Readers.{skip_white}
+use Rattle.svd_values.proofs.Parts.{with_failed, with_parts, with_passed}
+use Rattle.svd_values.proofs.WordLists.{word-begun, word-cut, word-ended, word-smaller}
 use Rattle.svd_values.proofs.index.words.Goals as goal
 
-pub first_name-requires : goal.first_name-requires
-first_name-requires c = (front_at is_word_byte c.words.rest.now c.split_at.result.0.now c.split_at.result.1.now c.word_len.result c.word_len.ensures.count c.split_at.ensures.front c.split_at.ensures.back).begins
+abbrev now : Bor (List ℕ) → List ℕ
+now text = text.now
 
-pub returns-in_err-first_name : goal.returns-in_err-first_name
-returns-in_err-first_name c =
-    let p = err_from_is_err_and c.from_residual.result c.from_residual.ensures.1 in
-    let front = front_at is_word_byte c.words.rest.now c.split_at.result.0.now c.split_at.result.1.now c.word_len.result c.word_len.ensures.count c.split_at.ensures.front c.split_at.ensures.back in
-    rw (p.1, p.2) (λ fault. read_nothing c.args.text.now c.words.words c.words.rest.now c.words.invariant
-    (no_word c.words.rest.now c.split_at.result.0.now c.split_at.result.1.now front (c.in_err-first_name.ensures fault)))
+abbrev same : List ℕ → List ℕ
+same word = word
 
-pub returns-in_err-behind_comma : goal.returns-in_err-behind_comma
-returns-in_err-behind_comma c =
-    let p = err_from_is_err_and c.from_residual-in_err-behind_comma.result c.from_residual-in_err-behind_comma.ensures.1 in
-    let front = front_at is_word_byte c.words.rest.now c.split_at.result.0.now c.split_at.result.1.now c.word_len.result c.word_len.ensures.count c.split_at.ensures.front c.split_at.ensures.back in
-    rw (p.1, p.2) (λ fault. read_nothing c.args.text.now c.words.words c.words.rest.now c.words.invariant
-    (no_comma c.words.rest.now c.split_at.result.0.now c.split_at.result.1.now front c.in_err-behind_comma.ensures.1 c.in_err-behind_comma.ensures.2))
+pub words-init : goal.words-init
+words-init c = ap (λ words. with_parts is_full_word same words (after_commas (parts_of 44 c.args.text.now))) c.new-words.ensures ∙ word-begun c.args.text.now
+
+pub returns-in_default-2 : goal.returns-in_default-2
+returns-in_default-2 c =
+    let next = option_map skip_white (option_map now c.first_part.result.1) in
+    with_failed is_full_word same c.words.words (after_commas (parts_left 44 (option_map now c.words.rest))) c.first_part.result.0.now (after_commas (parts_left 44 next)) (words_of c.args.text.now)
+    (word-cut (option_map now c.words.rest) c.in-Some.left.now c.first_part.result.0.now (option_map now c.first_part.result.1) next (ap (option_map now) c.in-Some.is) c.first_part.ensures.parts refl)
+    (sym c.in_default-2.is ∙ c.in_ok-word.ensures)
+    c.words.invariant
 
 pub words-smaller : goal.words-smaller
 words-smaller c =
-    let front = front_at is_word_byte c.words.rest.now c.split_at.result.0.now c.split_at.result.1.now c.word_len.result c.word_len.ensures.count c.split_at.ensures.front c.split_at.ensures.back in
-    let behind = rw c.in-Some.is at c.in_ok-behind_comma.ensures in
-    subst (λ text. length text < length c.words.rest.now) (sym behind.0)
-    (shorter c.words.rest.now c.split_at.result.0.now c.split_at.result.1.now (drop 1 c.split_at.result.1.now) front (comma_first c.split_at.result.1.now behind.1))
+    word-smaller (option_map now c.words.rest) c.in-Some.left.now c.first_part.result.1 (option_map now c.skip_white-rest.result) (ap (option_map now) c.in-Some.is) c.first_part.ensures.shorter c.skip_white-rest.ensures
 
 pub words-preserved : goal.words-preserved
 words-preserved c =
-    let front = front_at is_word_byte c.words.rest.now c.split_at.result.0.now c.split_at.result.1.now c.word_len.result c.word_len.ensures.count c.split_at.ensures.front c.split_at.ensures.back in
-    let behind = rw c.in-Some.is at c.in_ok-behind_comma.ensures in
-    rw (c.in_ok-push.ensures.ok, c.in_ok-first_name.ensures.0, behind.0)
-    (read_more c.args.text.now c.words.words c.words.rest.now c.split_at.result.0.now c.split_at.result.1.now (drop 1 c.split_at.result.1.now) c.words.invariant front c.in_ok-first_name.ensures.1
-    (comma_first c.split_at.result.1.now behind.1))
+    let next = option_map now c.skip_white-rest.result in
+    with_passed is_full_word same c.words.words c.push.new.self (after_commas (parts_left 44 (option_map now c.words.rest))) c.first_part.result.0.now c.in-Some-2.word (after_commas (parts_left 44 next)) (words_of c.args.text.now)
+    (word-cut (option_map now c.words.rest) c.in-Some.left.now c.first_part.result.0.now (option_map now c.first_part.result.1) next (ap (option_map now) c.in-Some.is) c.first_part.ensures.parts c.skip_white-rest.ensures)
+    (sym c.in-Some-2.is ∙ c.in_ok-word.ensures)
+    c.in_ok-push.ensures.ok
+    c.words.invariant
+
+pub returns : goal.returns
+returns c = word-ended c.words.words (option_map now c.words.rest) (words_of c.args.text.now) (ap (option_map now) c.in_default.is) c.words.invariant

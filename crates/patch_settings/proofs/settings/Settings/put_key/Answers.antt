@@ -1,4 +1,4 @@
-use Rattle.svd_keys.specs.Forms.{access_of, action_of, index_of, kind_of, label_of, name_of, number_of}
+use Rattle.svd_values.specs.Forms.{access_of, action_of, index_of, kind_of, label_of, name_of, number_of}
 use Rattle.patch_sem.specs.Settings.{set_by}
 use Rattle.patch_settings.proofs.Putting.{access-put, action-put, alternate-put, as_key, base-put, count-put, group-put, index-put, kind-put, name-put, nothing-put, offset-put, reset_mask-put, reset_value-put, size-put, step-put}
 use Rattle.patch_settings.specs.Places.{places}
@@ -18,7 +18,7 @@ returns-in-Size c = as_key c.args.key _ c.args.text.now _ (places c.args.self.no
 
 pub returns-in-Access : goal.returns-in-Access
 unfolding set_by
-returns-in-Access c = as_key c.args.key _ c.args.text.now _ (places c.args.self.now) c.in-Access.is (access-put c.args.self.now (access_of c.args.text.now) _ c.put-in-Access.new.place c.access.ensures c.put-in-Access.ensures)
+returns-in-Access c = as_key c.args.key _ c.args.text.now _ (places c.args.self.now) c.in-Access.is (access-put c.args.self.now (access_of c.args.text.now) _ c.put-in-Access.new.place c.access_word.ensures c.put-in-Access.ensures)
 
 pub returns-in-ResetValue : goal.returns-in-ResetValue
 unfolding set_by
@@ -36,9 +36,9 @@ pub returns-in-DimIncrement : goal.returns-in-DimIncrement
 unfolding set_by
 returns-in-DimIncrement c = as_key c.args.key _ c.args.text.now _ (places c.args.self.now) c.in-DimIncrement.is (step-put c.args.self.now (number_of c.args.text.now) _ c.put-in-DimIncrement.new.place c.number-in-DimIncrement.ensures c.put-in-DimIncrement.ensures)
 
-pub returns-in_ok-index-in-DimIndex : goal.returns-in_ok-index-in-DimIndex
+pub returns-in_ok-dim_index-in-DimIndex : goal.returns-in_ok-dim_index-in-DimIndex
 unfolding set_by
-returns-in_ok-index-in-DimIndex c = as_key c.args.key _ c.args.text.now _ (places c.args.self.now) c.in-DimIndex.is (index-put c.args.self.now (index_of c.args.text.now) _ c.put-in-DimIndex.new.place c.in_ok-index-in-DimIndex.ensures c.put-in-DimIndex.ensures)
+returns-in_ok-dim_index-in-DimIndex c = as_key c.args.key _ c.args.text.now _ (places c.args.self.now) c.in-DimIndex.is (index-put c.args.self.now (index_of c.args.text.now) _ c.put-in-DimIndex.new.place c.in_ok-dim_index-in-DimIndex.ensures c.put-in-DimIndex.ensures)
 
 pub returns-in-BaseAddress : goal.returns-in-BaseAddress
 unfolding set_by
@@ -48,25 +48,25 @@ pub returns-in-AddressOffset : goal.returns-in-AddressOffset
 unfolding set_by
 returns-in-AddressOffset c = as_key c.args.key _ c.args.text.now _ (places c.args.self.now) c.in-AddressOffset.is (offset-put c.args.self.now (number_of c.args.text.now) _ c.put_offset.new.place c.number-in-AddressOffset.ensures c.put_offset.ensures)
 
-pub returns-in_ok-name-in-AlternateCluster : goal.returns-in_ok-name-in-AlternateCluster
+pub returns-in_ok-element_name-in-AlternateCluster : goal.returns-in_ok-element_name-in-AlternateCluster
 unfolding set_by
-returns-in_ok-name-in-AlternateCluster c = as_key c.args.key _ c.args.text.now _ (places c.args.self.now) c.in-AlternateCluster.is (alternate-put c.args.self.now (name_of c.args.text.now) _ c.put-in-AlternateCluster.new.place c.in_ok-name-in-AlternateCluster.ensures c.put-in-AlternateCluster.ensures)
+returns-in_ok-element_name-in-AlternateCluster c = as_key c.args.key _ c.args.text.now _ (places c.args.self.now) c.in-AlternateCluster.is (alternate-put c.args.self.now (name_of c.args.text.now) _ c.put-in-AlternateCluster.new.place c.in_ok-element_name-in-AlternateCluster.ensures c.put-in-AlternateCluster.ensures)
 
-pub returns-in_ok-name-in-AlternateGroup : goal.returns-in_ok-name-in-AlternateGroup
+pub returns-in_ok-element_name-in-AlternateGroup : goal.returns-in_ok-element_name-in-AlternateGroup
 unfolding set_by
-returns-in_ok-name-in-AlternateGroup c = as_key c.args.key _ c.args.text.now _ (places c.args.self.now) c.in-AlternateGroup.is (group-put c.args.self.now (name_of c.args.text.now) _ c.put-in-AlternateGroup.new.place c.in_ok-name-in-AlternateGroup.ensures c.put-in-AlternateGroup.ensures)
+returns-in_ok-element_name-in-AlternateGroup c = as_key c.args.key _ c.args.text.now _ (places c.args.self.now) c.in-AlternateGroup.is (group-put c.args.self.now (name_of c.args.text.now) _ c.put-in-AlternateGroup.new.place c.in_ok-element_name-in-AlternateGroup.ensures c.put-in-AlternateGroup.ensures)
 
-pub returns-in_ok-name-in-AlternateRegister : goal.returns-in_ok-name-in-AlternateRegister
+pub returns-in_ok-element_name-in-AlternateRegister : goal.returns-in_ok-element_name-in-AlternateRegister
 unfolding set_by
-returns-in_ok-name-in-AlternateRegister c = as_key c.args.key _ c.args.text.now _ (places c.args.self.now) c.in-AlternateRegister.is (alternate-put c.args.self.now (name_of c.args.text.now) _ c.put-in-AlternateRegister.new.place c.in_ok-name-in-AlternateRegister.ensures c.put-in-AlternateRegister.ensures)
+returns-in_ok-element_name-in-AlternateRegister c = as_key c.args.key _ c.args.text.now _ (places c.args.self.now) c.in-AlternateRegister.is (alternate-put c.args.self.now (name_of c.args.text.now) _ c.put-in-AlternateRegister.new.place c.in_ok-element_name-in-AlternateRegister.ensures c.put-in-AlternateRegister.ensures)
 
 pub returns-in-ModifiedWriteValues : goal.returns-in-ModifiedWriteValues
 unfolding set_by
-returns-in-ModifiedWriteValues c = as_key c.args.key _ c.args.text.now _ (places c.args.self.now) c.in-ModifiedWriteValues.is (kind-put c.args.self.now (kind_of c.args.text.now) _ c.put-in-ModifiedWriteValues.new.place c.kind.ensures c.put-in-ModifiedWriteValues.ensures)
+returns-in-ModifiedWriteValues c = as_key c.args.key _ c.args.text.now _ (places c.args.self.now) c.in-ModifiedWriteValues.is (kind-put c.args.self.now (kind_of c.args.text.now) _ c.put-in-ModifiedWriteValues.new.place c.write_kind.ensures c.put-in-ModifiedWriteValues.ensures)
 
 pub returns-in-ReadAction : goal.returns-in-ReadAction
 unfolding set_by
-returns-in-ReadAction c = as_key c.args.key _ c.args.text.now _ (places c.args.self.now) c.in-ReadAction.is (action-put c.args.self.now (action_of c.args.text.now) _ c.put-in-ReadAction.new.place c.action.ensures c.put-in-ReadAction.ensures)
+returns-in-ReadAction c = as_key c.args.key _ c.args.text.now _ (places c.args.self.now) c.in-ReadAction.is (action-put c.args.self.now (action_of c.args.text.now) _ c.put-in-ReadAction.new.place c.read_action.ensures c.put-in-ReadAction.ensures)
 
 pub returns-in-BitOffset : goal.returns-in-BitOffset
 unfolding set_by
