@@ -7,7 +7,8 @@ use Rattle.std.proofs.lemmas.List.{map-append}
 use Rattle.indexmap.specs.IndexMap.{insert_entry}
 use Rattle.svd_model.specs.declared.sibling.Sibling.{Sibling}
 use Rattle.svd_model.specs.Keys.{Key}
-use Rattle.svd_model.specs.Steps.{Step}
+use Rattle.svd_model.specs.Steps.{Step, Kind}
+use Rattle.svd_model.specs.Trees.{step_of}
 use Rattle.svd_rows.specs.Forest.{Tree}
 
 -- keys are told apart by name and number
@@ -37,29 +38,6 @@ module _ {X : Type 0} where
       apart [] h = h.0
       apart (first ∷ front) h = apart front h.1
 
-  -- one more entry is copied: its key is new, since the keys of all entries are distinct
-  pub copied_more : (eq : Sibling → Sibling → Bool) (under : (Sibling × X) → (Step × Tree Step Key)) (all made left rest new : List (Sibling × X)) (key : Sibling) (value : X) (from : Sibling × X) → ((one other : Sibling) → eq one other ≡ eq other one) → IsDistinct eq (map (λ entry. entry.0) all) → CopiedUpTo under all made left → left ≡ from ∷ rest → key ≡ from.0 → under (key, value) ≡ under from → new ≡ insert_entry eq made key value → CopiedUpTo under all new rest
-  copied_more eq under all made left rest new key value from turns distinct so_far is_left is_key is_value is_new =
-      subst (λ entries. CopiedUpTo under all entries rest) (sym (is_new ∙ insert_entry-last eq made key value (map (λ entry. entry.0) rest) turns (subst (IsDistinct eq) (sym all_keys) distinct)))
-      (record {
-        keys =
-            ap (λ r. r ++ map (λ (entry : Sibling × X). entry.0) rest) (map-append (λ (entry : Sibling × X). entry.0) made ((key, value) ∷ []))
-            ∙ append_assoc (map (λ (entry : Sibling × X). entry.0) made) (key ∷ []) (map (λ (entry : Sibling × X). entry.0) rest)
-            ∙ all_keys;
-        trees =
-            ap (λ r. r ++ map under rest) (map-append under made ((key, value) ∷ []))
-            ∙ append_assoc (map under made) (under (key, value) ∷ []) (map under rest)
-            ∙ ap (λ t. map under made ++ t ∷ map under rest) is_value
-            ∙ sym (ap (λ r. map under made ++ map under r) is_left)
-            ∙ so_far.trees;
-      })
-    where
-      all_keys : map (λ entry. entry.0) made ++ key ∷ map (λ (entry : Sibling × X). entry.0) rest ≡ map (λ entry. entry.0) all
-      all_keys =
-          ap (λ k. map (λ (entry : Sibling × X). entry.0) made ++ k ∷ map (λ (entry : Sibling × X). entry.0) rest) is_key
-          ∙ sym (ap (λ r. map (λ (entry : Sibling × X). entry.0) made ++ map (λ (entry : Sibling × X). entry.0) r) is_left)
-          ∙ so_far.keys
-
 -- the test of keys takes them in either order
 pub sibling_eq-turns : (one other : Sibling) → sibling_eq one other ≡ sibling_eq other one
 sibling_eq-turns one other = ap₂ (λ a b. a && b) (bytes_turn one.name other.name) (nat_turn one.number other.number)
@@ -72,3 +50,26 @@ sibling_eq-turns one other = ap₂ (λ a b. a && b) (bytes_turn one.name other.n
         let one = bytes_decides a b in
         let two = bytes_decides b a in
         same_answers (bytes_eq a b) (bytes_eq b a) (λ e. two.1 (sym (one.0 e))) (λ e. one.1 (sym (two.0 e)))
+
+-- one more entry is copied: its key is new, since the keys of all entries are distinct
+pub copied_more : {X : Type 0} (kind : Kind) (tree : X → Tree Step Key) (all made left rest new : List (Sibling × X)) (key from_key : Sibling) (value from_value : X) → IsDistinct sibling_eq (map (λ entry. entry.0) all) → CopiedUpTo (λ entry. (step_of kind entry.0, tree entry.1)) all made left → left ≡ (from_key, from_value) ∷ rest → key ≡ from_key → tree value ≡ tree from_value → new ≡ insert_entry sibling_eq made key value → CopiedUpTo (λ entry. (step_of kind entry.0, tree entry.1)) all new rest
+copied_more {X = X} kind tree all made left rest new key from_key value from_value distinct so_far is_left is_key is_value is_new =
+    subst (λ entries. CopiedUpTo under all entries rest) (sym (is_new ∙ insert_entry-last sibling_eq made key value (map key_of rest) sibling_eq-turns (subst (IsDistinct sibling_eq) (sym all_keys) distinct)))
+    (record {
+      keys = ap (λ r. r ++ map key_of rest) (map-append key_of made ((key, value) ∷ [])) ∙ append_assoc (map key_of made) (key ∷ []) (map key_of rest) ∙ all_keys;
+      trees =
+          ap (λ r. r ++ map under rest) (map-append under made ((key, value) ∷ []))
+          ∙ append_assoc (map under made) (under (key, value) ∷ []) (map under rest)
+          ∙ ap₂ (λ k t. map under made ++ (step_of kind k, t) ∷ map under rest) is_key is_value
+          ∙ sym (ap (λ r. map under made ++ map under r) is_left)
+          ∙ so_far.trees;
+    })
+  where
+    under : (Sibling × X) → (Step × Tree Step Key)
+    under entry = (step_of kind entry.0, tree entry.1)
+
+    key_of : (Sibling × X) → Sibling
+    key_of entry = entry.0
+
+    all_keys : map key_of made ++ key ∷ map key_of rest ≡ map key_of all
+    all_keys = ap (λ k. map key_of made ++ k ∷ map key_of rest) is_key ∙ sym (ap (λ r. map key_of made ++ map key_of r) is_left) ∙ so_far.keys

@@ -1,6 +1,5 @@
 -- Counting elements one after another, up to 2^64 - 1.
-use Rattle.std.proofs.Common.{◌≡◌, ℕ, suc, ◌+◌, ◌-◌, ◌^◌, ◌<◌, ◌≤◌, min, true, cond, List, [], ◌∷◌, length, map, drop, slice_index_or, refl, sym, ap, ◌∙◌, arith, add-one, drop-cons}
-use Rattle.std.proofs.lemmas.List.{drop_all}
+use Rattle.std.proofs.Common.{◌≡◌, ℕ, suc, ◌+◌, ◌-◌, ◌^◌, ◌<◌, ◌≤◌, min, true, cond, List, [], ◌∷◌, length, map, drop, get_or, refl, sym, ap, ◌∙◌, arith, zero-add}
 use Rattle.svd_model.specs.declared.device.Child.{Child}
 use Rattle.svd_model.specs.declared.device.Child.TheVariants.{Cluster, Register}
 use Rattle.svd_model.specs.declared.device.Cluster.{Cluster as ClusterOf, out-Cluster}
@@ -15,11 +14,8 @@ use Rattle.svd_model.specs.Steps.{Step, Kind, set, value}
 use Rattle.svd_model.specs.Trees.{child_tree, item_under, field_under, set_tree, value_tree, numbered, step_of}
 use Rattle.svd_model.proofs.Trees.{child_tree-cluster, child_tree-register, cluster_tree-below, item_under-is}
 use Rattle.svd_rows.specs.Elements.{count}
-use Rattle.svd_rows.specs.Forest.{Tree, siblings}
-
--- sums that stop at a greatest number
-sums : (most t c r : ℕ) → min (min (t + min c most) most + r) most ≡ min (t + (c + r)) most
-sums most t c r = omega arith
+use Rattle.svd_model.proofs.Lists.{from_place}
+use Rattle.svd_rows.specs.Forest.{Forest, Tree, leaf, siblings}
 
 -- one more element with those below it, and the rest
 sums-one : (most t c r : ℕ) → min (min (t + min (1 + min c most) most) most + r) most ≡ min (t + ((1 + c) + r)) most
@@ -46,6 +42,33 @@ unfolding count siblings
 counted_all total whole all fits none before =
     (omega arith) ∙ ap (λ xs. min (total + count is_counted (siblings xs)) (2 ^ 64 - 1)) (sym none) ∙ before
 
+pub told-fits : (now n : ℕ) → now ≡ told_count n → now ≤ 2 ^ 64 - 1
+told-fits now n is = omega arith
+
+-- so many are counted, and with those that are left they are the whole
+pub record CountedTo (total : ℕ) (left whole : Forest Step Key) : Type 0 where
+  pub sum : told_count (total + elements_in left) ≡ told_count (elements_in whole)
+  pub fits : total ≤ 2 ^ 64 - 1
+
+pub none_counted : (all : Forest Step Key) → CountedTo 0 all all
+none_counted all = record { sum = ap told_count (zero-add _); fits = omega arith }
+
+pub one_counted : (now total below : ℕ) (step : Step) (tree : Tree Step Key) (rest all : List (Step × Tree Step Key)) (whole : Forest Step Key)
+    → is_counted step ≡ true → all ≡ (step, tree) ∷ rest → below ≡ told_count (elements_in tree.below) → now ≡ told_count (total + (1 + below))
+    → CountedTo total (siblings all) whole → CountedTo now (siblings rest) whole
+one_counted now total below step tree rest all whole is are says grew so_far = record {
+  sum = counted_on now total below (told_count (elements_in whole)) step tree rest all is are says (grew ∙ omega arith) so_far.sum;
+  fits = told-fits now _ grew;
+}
+
+pub all_counted : (total : ℕ) (left whole : Forest Step Key) → left ≡ leaf → CountedTo total left whole → total ≡ told_count (elements_in whole)
+unfolding count
+all_counted total left whole none so_far =
+    plain total (2 ^ 64 - 1) so_far.fits ∙ ap (λ f. told_count (total + elements_in f)) (sym none) ∙ so_far.sum
+  where
+    plain : (t most : ℕ) → t ≤ most → t ≡ min (t + 0) most
+    plain t most fits = omega arith
+
 -- a child is counted
 pub item-counted : (item : Item) → is_counted (item_under item).0 ≡ true
 item-counted item = ap (λ (x : Step × Tree Step Key). is_counted x.0) (item_under-is item) ∙ by (out-Item item).child
@@ -67,37 +90,23 @@ values-counted n (first ∷ items) = ap (λ m. 1 + (0 + m)) (values-counted (n +
     step m = omega arith
 
 -- one more set: its values count
-pub sets-on : (now total here whole i : ℕ) (sets : List Values) (item : Values) → i < length sets → item ≡ slice_index_or sets i item → here ≡ length item.items.items → now ≡ told_count (total + here)
-    → told_count (total + elements_in (numbered set i (map set_tree (drop i sets)))) ≡ whole → told_count (now + elements_in (numbered set (i + 1) (map set_tree (drop (i + 1) sets)))) ≡ whole
+pub set_counted : (now total here i : ℕ) (sets : List Values) (item : Values) (whole : Forest Step Key) → i < length sets → item ≡ get_or sets i item → here ≡ length item.items.items → now ≡ told_count (total + here)
+    → CountedTo total (numbered set i (map set_tree (drop i sets))) whole → CountedTo now (numbered set (i + 1) (map set_tree (drop (i + 1) sets))) whole
 unfolding numbered count
-sets-on now total here whole i sets item inside is says grew before =
-    ap (λ n. min (n + rest) (2 ^ 64 - 1)) (grew ∙ ap (λ n. min (total + n) (2 ^ 64 - 1)) (says ∙ sym (values-counted 0 item.items.items)))
-    ∙ plain (2 ^ 64 - 1) total (count is_counted (numbered value 0 (map value_tree item.items.items))) rest
-    ∙ ap (λ xs. min (total + count is_counted (numbered set i (map set_tree xs))) (2 ^ 64 - 1)) (sym first)
-    ∙ before
+set_counted now total here i sets item whole inside is says grew so_far = record {
+  sum =
+      ap (λ n. told_count (n + rest)) (grew ∙ ap (λ n. told_count (total + n)) (says ∙ sym (values-counted 0 item.items.items)))
+      ∙ plain (2 ^ 64 - 1) total (count is_counted (numbered value 0 (map value_tree item.items.items))) rest
+      ∙ ap (λ xs. told_count (total + count is_counted (numbered set i (map set_tree xs)))) (sym (from_place sets i item inside is))
+      ∙ so_far.sum;
+  fits = told-fits now _ grew;
+}
   where
     rest : ℕ
     rest = count is_counted (numbered set (i + 1) (map set_tree (drop (i + 1) sets)))
 
-    first : drop i sets ≡ item ∷ drop (i + 1) sets
-    first = rw (add-one) (drop-cons sets i item inside ∙ ap (λ x. x ∷ drop (suc i) sets) (sym is))
-
     plain : (most t c r : ℕ) → min (min (t + c) most + r) most ≡ min (t + (0 + (c + r))) most
     plain most t c r = omega arith
-
-pub sets-all : (total whole i : ℕ) (sets : List Values) → total ≤ 2 ^ 64 - 1 → length sets ≤ i → told_count (total + elements_in (numbered set i (map set_tree (drop i sets)))) ≡ whole → total ≡ whole
-unfolding numbered count
-sets-all total whole i sets fits past before =
-    plain total (2 ^ 64 - 1) fits ∙ ap (λ xs. min (total + count is_counted (numbered set i (map set_tree xs))) (2 ^ 64 - 1)) (sym (drop_all i sets past)) ∙ before
-  where
-    plain : (t most : ℕ) → t ≤ most → t ≡ min (t + 0) most
-    plain t most fits = omega arith
-
-pub items-next : (items : List Item) (i : ℕ) (item : Item) → i < length items → item ≡ slice_index_or items i item → map item_under (drop i items) ≡ item_under item ∷ map item_under (drop (i + 1) items)
-items-next items i item inside is = rw (add-one) (ap (map item_under) (drop-cons items i item inside) ∙ ap (λ x. item_under x ∷ map item_under (drop (suc i) items)) (sym is))
-
-pub items-none : (items : List Item) (i : ℕ) → length items ≤ i → map item_under (drop i items) ≡ []
-items-none items i past = ap (map item_under) (drop_all i items past)
 
 pub cluster-below : (child : Child) (element : ClusterOf) → child ≡ Cluster element → siblings (map item_under (out-Cluster element).children.items) ≡ (child_tree child).1.below
 cluster-below child element is =
@@ -105,6 +114,3 @@ cluster-below child element is =
 
 pub register-below : (child : Child) (element : RegisterOf) → child ≡ Register element → siblings (map field_under element.fields.entries) ≡ (child_tree child).1.below
 register-below child element is = sym (ap (λ (c : Child). (child_tree c).1.below) is ∙ ap (λ (t : Kind × Tree Step Key). t.1.below) (child_tree-register element))
-
-pub told-fits : (now n : ℕ) → now ≡ told_count n → now ≤ 2 ^ 64 - 1
-told-fits now n is = omega arith

@@ -5,6 +5,7 @@ pub mod Nesting
 pub mod Placed
 pub mod Stated
 pub mod Steps
+pub mod Told
 pub mod Trees
 pub mod Walking
 pub mod Counts

@@ -3,13 +3,13 @@ use Rattle.std.proofs.Common.{◌≡◌, List, [], ◌∷◌, map, Option, Some,
 use Rattle.svd_model.specs.declared.props.Props.{Props}
 use Rattle.svd_model.specs.Properties.{nearest, holding, PropertiesNest}
 
-nearest-nested : {A : Type 0} (first : Option A) (others : List (Option A)) → nearest (first ∷ nearest others ∷ []) ≡ nearest (first ∷ others)
-nearest-nested {A = A} None others = one (nearest others)
-  where
-    one : (o : Option A) → nearest (o ∷ []) ≡ o
-    one None = refl
-    one (Some x) = refl
-nearest-nested {A = A} (Some x) others = refl
+pub nearest-one : {A : Type 0} (o : Option A) → nearest (o ∷ []) ≡ o
+nearest-one None = refl
+nearest-one (Some x) = refl
+
+pub nearest-nested : {A : Type 0} (first : Option A) (others : List (Option A)) → nearest (first ∷ nearest others ∷ []) ≡ nearest (first ∷ others)
+nearest-nested None others = nearest-one (nearest others)
+nearest-nested (Some x) others = refl
 
 pub holding-nested : PropertiesNest
 unfolding holding

@@ -8,7 +8,7 @@ use Rattle.svd_model.specs.declared.device.Register.{Register}
 use Rattle.svd_model.specs.declared.device.Values.{Values}
 use Rattle.svd_model.specs.declared.device.Variant.{Variant}
 use Rattle.svd_model.specs.declared.props.Props.{Props}
-use Rattle.svd_model.specs.Keys.{Key, rank, dim_count, dim_increment, base_address, at_offset, bit_width, register_size, register_access, reset_value, reset_mask, write_kind, value_usage, enumerated_value}
+use Rattle.svd_model.specs.Keys.{Key, rank, dim_count, dim_increment, at_offset, bit_width, register_size, register_access, reset_value, reset_mask, write_kind, value_usage, enumerated_value}
 use Rattle.svd_model.specs.Properties.{nearest}
 use Rattle.svd_model.specs.Stating.{value_of, stated_size, stated_access, stated_reset, stated_mask, stated_kind, stated_base, stated_offset, stated_width, stated_dim, stated_increment, stated_usage, stated_number}
 use Rattle.svd_model.specs.Trees.{device_places, peripheral_places, cluster_places, register_places, field_places, set_places, value_places}
@@ -59,65 +59,17 @@ stated_back key one is (Some a) = is a
 
 -- ---- which rank each key has
 
-other-size : (key : Key) → (rank key ≡ 10 → ⊥) → stated_size key ≡ None
-unfolding rank
-other-size (register_size n) h = absurd (h refl)
-other-size _ h = refl
-
-other-access : (key : Key) → (rank key ≡ 11 → ⊥) → stated_access key ≡ None
-unfolding rank
-other-access (register_access a) h = absurd (h refl)
-other-access _ h = refl
-
-other-reset : (key : Key) → (rank key ≡ 12 → ⊥) → stated_reset key ≡ None
-unfolding rank
-other-reset (reset_value n) h = absurd (h refl)
-other-reset _ h = refl
-
-other-mask : (key : Key) → (rank key ≡ 13 → ⊥) → stated_mask key ≡ None
-unfolding rank
-other-mask (reset_mask n) h = absurd (h refl)
-other-mask _ h = refl
-
-other-kind : (key : Key) → (rank key ≡ 14 → ⊥) → stated_kind key ≡ None
-unfolding rank
-other-kind (write_kind k) h = absurd (h refl)
-other-kind _ h = refl
-
 other-base : (key : Key) → (rank key ≡ 5 → ⊥) → stated_base key ≡ None
 unfolding rank
-other-base (base_address n) h = absurd (h refl)
-other-base _ h = refl
+other-base key other = grind arith
 
 other-offset : (key : Key) → (rank key ≡ 6 → ⊥) → stated_offset key ≡ None
 unfolding rank
-other-offset (at_offset n) h = absurd (h refl)
-other-offset _ h = refl
-
-other-width : (key : Key) → (rank key ≡ 7 → ⊥) → stated_width key ≡ None
-unfolding rank
-other-width (bit_width n) h = absurd (h refl)
-other-width _ h = refl
+other-offset key other = grind arith
 
 pub other-dim : (key : Key) → (rank key ≡ 2 → ⊥) → stated_dim key ≡ None
 unfolding rank
-other-dim (dim_count n) h = absurd (h refl)
-other-dim _ h = refl
-
-other-increment : (key : Key) → (rank key ≡ 3 → ⊥) → stated_increment key ≡ None
-unfolding rank
-other-increment (dim_increment n) h = absurd (h refl)
-other-increment _ h = refl
-
-other-usage : (key : Key) → (rank key ≡ 16 → ⊥) → stated_usage key ≡ None
-unfolding rank
-other-usage (value_usage u) h = absurd (h refl)
-other-usage _ h = refl
-
-other-number : (key : Key) → (rank key ≡ 17 → ⊥) → stated_number key ≡ None
-unfolding rank
-other-number (enumerated_value n) h = absurd (h refl)
-other-number _ h = refl
+other-dim key other = grind arith
 
 -- ---- properties
 
@@ -131,11 +83,12 @@ props_of keys = record {
 }
 
 pub props_at : (props : Props) (places : List (Option Key)) → IsPlaced rank 0 places → place_at places 10 ≡ option_map register_size props.size → place_at places 11 ≡ option_map register_access props.access → place_at places 12 ≡ option_map reset_value props.reset_value → place_at places 13 ≡ option_map reset_mask props.reset_mask → props_of (stated places) ≡ props
+unfolding rank
 props_at props places placed a b c d =
-    let size = found stated_size 10 other-size places placed ∙ ap (option_and_then stated_size) a ∙ stated_back register_size stated_size (λ _. refl) props.size in
-    let access = found stated_access 11 other-access places placed ∙ ap (option_and_then stated_access) b ∙ stated_back register_access stated_access (λ _. refl) props.access in
-    let value = found stated_reset 12 other-reset places placed ∙ ap (option_and_then stated_reset) c ∙ stated_back reset_value stated_reset (λ _. refl) props.reset_value in
-    let mask = found stated_mask 13 other-mask places placed ∙ ap (option_and_then stated_mask) d ∙ stated_back reset_mask stated_mask (λ _. refl) props.reset_mask in
+    let size = found stated_size 10 (λ key other. grind arith) places placed ∙ ap (option_and_then stated_size) a ∙ stated_back register_size stated_size (λ _. refl) props.size in
+    let access = found stated_access 11 (λ key other. grind arith) places placed ∙ ap (option_and_then stated_access) b ∙ stated_back register_access stated_access (λ _. refl) props.access in
+    let value = found stated_reset 12 (λ key other. grind arith) places placed ∙ ap (option_and_then stated_reset) c ∙ stated_back reset_value stated_reset (λ _. refl) props.reset_value in
+    let mask = found stated_mask 13 (λ key other. grind arith) places placed ∙ ap (option_and_then stated_mask) d ∙ stated_back reset_mask stated_mask (λ _. refl) props.reset_mask in
     λ i. record { size = size i; access = access i; reset_value = value i; reset_mask = mask i }
 
 pub device-props : (e : Device) → props_of (stated (device_places e)) ≡ e.props
@@ -189,37 +142,37 @@ unfolding register_places
 register-offset e = found stated_offset 6 other-offset (register_places e) (register-placed e)
 
 pub register-kind : (e : Register) → value_of stated_kind (stated (register_places e)) ≡ e.kind
-unfolding register_places
-register-kind e = found stated_kind 14 other-kind (register_places e) (register-placed e) ∙ stated_back write_kind stated_kind (λ _. refl) e.kind
+unfolding register_places rank
+register-kind e = found stated_kind 14 (λ key other. grind arith) (register_places e) (register-placed e) ∙ stated_back write_kind stated_kind (λ _. refl) e.kind
 
 pub field-offset : (e : Field) → value_of stated_offset (stated (field_places e)) ≡ e.place.offset
 unfolding field_places
 field-offset e = found stated_offset 6 other-offset (field_places e) (field-placed e) ∙ stated_back at_offset stated_offset (λ _. refl) e.place.offset
 
 pub field-width : (e : Field) → value_of stated_width (stated (field_places e)) ≡ e.place.width
-unfolding field_places
-field-width e = found stated_width 7 other-width (field_places e) (field-placed e) ∙ stated_back bit_width stated_width (λ _. refl) e.place.width
+unfolding field_places rank
+field-width e = found stated_width 7 (λ key other. grind arith) (field_places e) (field-placed e) ∙ stated_back bit_width stated_width (λ _. refl) e.place.width
 
 pub field-access : (e : Field) → value_of stated_access (stated (field_places e)) ≡ e.access
-unfolding field_places
-field-access e = found stated_access 11 other-access (field_places e) (field-placed e) ∙ stated_back register_access stated_access (λ _. refl) e.access
+unfolding field_places rank
+field-access e = found stated_access 11 (λ key other. grind arith) (field_places e) (field-placed e) ∙ stated_back register_access stated_access (λ _. refl) e.access
 
 pub field-kind : (e : Field) → value_of stated_kind (stated (field_places e)) ≡ e.kind
-unfolding field_places
-field-kind e = found stated_kind 14 other-kind (field_places e) (field-placed e) ∙ stated_back write_kind stated_kind (λ _. refl) e.kind
+unfolding field_places rank
+field-kind e = found stated_kind 14 (λ key other. grind arith) (field_places e) (field-placed e) ∙ stated_back write_kind stated_kind (λ _. refl) e.kind
 
 pub set-usage : (e : Values) → value_of stated_usage (stated (set_places e)) ≡ e.usage
-unfolding set_places
-set-usage e = found stated_usage 16 other-usage (set_places e) (set-placed e) ∙ stated_back value_usage stated_usage (λ _. refl) e.usage
+unfolding set_places rank
+set-usage e = found stated_usage 16 (λ key other. grind arith) (set_places e) (set-placed e) ∙ stated_back value_usage stated_usage (λ _. refl) e.usage
 
 pub value-number : (e : Variant) → value_of stated_number (stated (value_places e)) ≡ e.value
-unfolding value_places
-value-number e = found stated_number 17 other-number (value_places e) (value-placed e) ∙ stated_back enumerated_value stated_number (λ _. refl) e.value
+unfolding value_places rank
+value-number e = found stated_number 17 (λ key other. grind arith) (value_places e) (value-placed e) ∙ stated_back enumerated_value stated_number (λ _. refl) e.value
 
 -- a field states no size
 pub field-size : (e : Field) → value_of stated_size (stated (field_places e)) ≡ None
-unfolding field_places
-field-size e = found stated_size 10 other-size (field_places e) (field-placed e)
+unfolding field_places rank
+field-size e = found stated_size 10 (λ key other. grind arith) (field_places e) (field-placed e)
 
 -- a device has no dimension
 pub device-dim : (e : Device) → value_of stated_dim (stated (device_places e)) ≡ None
@@ -233,13 +186,13 @@ unfolding cluster_places
 cluster-dim e = found stated_dim 2 other-dim (cluster_places e) (cluster-placed e) ∙ stated_back dim_count stated_dim (λ _. refl) e.dim.count
 
 pub cluster-increment : {A B C : Type 0} (e : Cluster-F A B C) → value_of stated_increment (stated (cluster_places e)) ≡ e.dim.step
-unfolding cluster_places
-cluster-increment e = found stated_increment 3 other-increment (cluster_places e) (cluster-placed e) ∙ stated_back dim_increment stated_increment (λ _. refl) e.dim.step
+unfolding cluster_places rank
+cluster-increment e = found stated_increment 3 (λ key other. grind arith) (cluster_places e) (cluster-placed e) ∙ stated_back dim_increment stated_increment (λ _. refl) e.dim.step
 
 pub register-dim : (e : Register) → value_of stated_dim (stated (register_places e)) ≡ e.dim.count
 unfolding register_places
 register-dim e = found stated_dim 2 other-dim (register_places e) (register-placed e) ∙ stated_back dim_count stated_dim (λ _. refl) e.dim.count
 
 pub register-increment : (e : Register) → value_of stated_increment (stated (register_places e)) ≡ e.dim.step
-unfolding register_places
-register-increment e = found stated_increment 3 other-increment (register_places e) (register-placed e) ∙ stated_back dim_increment stated_increment (λ _. refl) e.dim.step
+unfolding register_places rank
+register-increment e = found stated_increment 3 (λ key other. grind arith) (register_places e) (register-placed e) ∙ stated_back dim_increment stated_increment (λ _. refl) e.dim.step

@@ -1,6 +1,7 @@
 -- The elements that the rows of a tree tell are those that a walk of the tree meets.
 use Rattle.std.proofs.Common.{◌≡◌, Bool, true, false, ◌&&◌, cond, List, [], ◌∷◌, ◌++◌, map, filter, length, drop, Some, option_and_then, refl, sym, ap, ap₂, ◌∙◌, subst, append_assoc, append-nil}
 use Rattle.std.proofs.lemmas.List.{map-append}
+use Rattle.std.proofs.lemmas.List.Elements.{filter-append}
 use Rattle.svd_model.specs.Keys.{Key}
 use Rattle.svd_model.specs.Stating.{keys_at, paths_of, ways_down, keys_down}
 use Rattle.svd_model.specs.Steps.{Step, same_step}
@@ -11,25 +12,10 @@ use Rattle.svd_rows.specs.Forest.{Forest, Tree, leaf, node, join, steps}
 use Rattle.svd_rows.specs.LookUps.{inside, seen_below, keys_of}
 use Rattle.svd_rows.specs.Paths.{exactly, begins, is_within}
 use Rattle.svd_rows.specs.Rows.{Row, Said, states, is_element, own, under, forest_rows, rows}
-use Rattle.svd_rows.proofs.Lists.{map-map, map_agree}
+use Rattle.svd_rows.proofs.Lists.{filter-map, map-map, map_agree}
 use Rattle.svd_rows.proofs.LookUps.{inside-rows, keys_of-rows}
+use Rattle.svd_rows.proofs.Reading.{join_assoc}
 use Rattle.svd_rows.proofs.Standing.{element_at-stands}
-
-filter-map : {X Y : Type 0} (p : Y → Bool) (f : X → Y) (xs : List X) → filter p (map f xs) ≡ map f (filter (λ x. p (f x)) xs)
-filter-map p f [] = refl
-filter-map p f (x ∷ xs) = cases (p (f x)) (filter-map p f xs)
-  where
-    cases : (b : Bool) → filter p (map f xs) ≡ map f (filter (λ x. p (f x)) xs) → cond b (f x ∷ filter p (map f xs)) (filter p (map f xs)) ≡ map f (cond b (x ∷ filter (λ x. p (f x)) xs) (filter (λ x. p (f x)) xs))
-    cases true e = ap (λ r. f x ∷ r) e
-    cases false e = e
-
-filter-append : {X : Type 0} (p : X → Bool) (xs ys : List X) → filter p (xs ++ ys) ≡ filter p xs ++ filter p ys
-filter-append p [] ys = refl
-filter-append p (x ∷ xs) ys = cases (p x) (filter-append p xs ys)
-  where
-    cases : (b : Bool) → filter p (xs ++ ys) ≡ filter p xs ++ filter p ys → cond b (x ∷ filter p (xs ++ ys)) (filter p (xs ++ ys)) ≡ cond b (x ∷ filter p xs) (filter p xs) ++ filter p ys
-    cases true e = ap (λ r. x ∷ r) e
-    cases false e = e
 
 -- ---- what stands inside
 
@@ -153,11 +139,6 @@ seen-top path down tree =
     let own_is : inside same_step [] (rows tree) ≡ rows tree = inside-all (rows tree) in
     λ i. record { path = path_is i; down = down ++ keys_is i ∷ []; own = own_is i }
 
-join-join : (f g h : Forest Step Key) → join (join f g) h ≡ join f (join g h)
-unfolding join
-join-join leaf g h = refl
-join-join (node s ks c n) g h = ap (node s ks c) (join-join n g h)
-
 walk : (path : List Step) (down : List (List Key)) (ks : List Key) (before g : Forest Step Key) → IsDistinct same_step (join before g) → IsDistinct same_step g → map (seen_from path down (rows (record { keys = ks; below = join before g }))) (paths_of (forest_rows g)) ≡ visits path (down ++ ks ∷ []) g
 unfolding visits IsDistinct join
 walk path down ks before leaf whole distinct = ap (map (seen_from path down (rows (record { keys = ks; below = join before leaf })))) no_paths
@@ -169,8 +150,8 @@ walk path down ks before (node s cs c n) whole distinct =
     (map-map seen (λ q. s ∷ q) (paths_of (forest_rows c))
     ∙ map_agree (λ q. seen (s ∷ q)) (seen_from (path ++ s ∷ []) (down ++ ks ∷ []) (rows child)) (seen-child path down tree child s is) (paths_of (forest_rows c))
     ∙ walk (path ++ s ∷ []) (down ++ ks ∷ []) cs leaf c distinct.1 distinct.1)
-    (subst (λ (all : Forest Step Key). map (seen_from path down (rows (record { keys = ks; below = all }))) (paths_of (forest_rows n)) ≡ visits path (down ++ ks ∷ []) n) (join-join before (node s cs c leaf) n)
-    (walk path down ks (join before (node s cs c leaf)) n (subst (IsDistinct same_step) (sym (join-join before (node s cs c leaf) n)) whole) distinct.2)))
+    (subst (λ (all : Forest Step Key). map (seen_from path down (rows (record { keys = ks; below = all }))) (paths_of (forest_rows n)) ≡ visits path (down ++ ks ∷ []) n) (join_assoc before (node s cs c leaf) n)
+    (walk path down ks (join before (node s cs c leaf)) n (subst (IsDistinct same_step) (sym (join_assoc before (node s cs c leaf) n)) whole) distinct.2)))
   where
     tree : Tree Step Key
     tree = record { keys = ks; below = join before (node s cs c n) }

@@ -8,19 +8,19 @@ use crate::device::{Child, Device, Field, Item, Peripheral, Values};
 use crate::sibling::Sibling;
 use indexmap::IndexMap;
 
-// So many more, up to 2^64 - 1.
-fn more(total: u64, here: u64) -> u64
-    ensures { result ≡ told_count (total + here) }
+// One more element with so many below it, up to 2^64 - 1.
+fn one_more(total: u64, below: u64) -> u64
+    ensures { result ≡ told_count (total + (1 + below)) }
 {
-    total.saturating_add(here)
+    total.saturating_add(1).saturating_add(below)
 }
 
 fn values_in(sets: &[Values]) -> u64
     ensures { result ≡ told_count (elements_in (numbered set 0 (map set_tree sets.now))) }
 {
-    let mut total = 0;
+    let mut total: u64 = 0;
     for values in sets {
-        total = more(total, values.items.len() as u64);
+        total = total.saturating_add(values.items.len() as u64);
     }
     total
 }
@@ -30,7 +30,7 @@ fn fields_in(fields: &IndexMap<Sibling, Field>) -> u64
 {
     let mut total = 0;
     for (_, field) in fields {
-        total = more(total, more(1, values_in(field.values.as_slice())));
+        total = one_more(total, values_in(field.values.as_slice()));
     }
     total
 }
@@ -52,7 +52,7 @@ fn items_in(items: &[Item]) -> u64
 {
     let mut total = 0;
     for item in items {
-        total = more(total, more(1, below(&item.child)));
+        total = one_more(total, below(&item.child));
     }
     total
 }
@@ -62,7 +62,7 @@ fn peripherals_in(peripherals: &IndexMap<Sibling, Peripheral>) -> u64
 {
     let mut total = 0;
     for (_, peripheral) in peripherals {
-        total = more(total, more(1, items_in(peripheral.children.as_slice())));
+        total = one_more(total, items_in(peripheral.children.as_slice()));
     }
     total
 }

@@ -69,39 +69,21 @@ impl Register {
     fn access_by_fields(&self) -> Access
         ensures { result ≡ access_by_fields (field_accesses self.now) }
     {
+        let mut reads = true;
+        let mut writes = true;
+        for (_key, field) in &self.fields {
+            reads &= is_read_only(field.access);
+            writes &= is_written_only(field.access);
+        }
         if self.fields.is_empty() {
             Access::ReadWrite
-        } else if self.is_read_only_by_fields() {
+        } else if reads {
             Access::ReadOnly
-        } else if self.is_written_only_by_fields() {
+        } else if writes {
             Access::WriteOnly
         } else {
             Access::ReadWrite
         }
-    }
-
-    /// Whether all fields state that they are read only.
-    fn is_read_only_by_fields(&self) -> bool
-        ensures { result ≡ list_all is_read_only (field_accesses self.now) }
-    {
-        for (_key, field) in &self.fields {
-            if !is_read_only(field.access) {
-                return false;
-            }
-        }
-        true
-    }
-
-    /// Whether all fields state that they are written only.
-    fn is_written_only_by_fields(&self) -> bool
-        ensures { result ≡ list_all is_written_only (field_accesses self.now) }
-    {
-        for (_key, field) in &self.fields {
-            if !is_written_only(field.access) {
-                return false;
-            }
-        }
-        true
     }
 }
 
@@ -113,8 +95,8 @@ impl Field {
         ensures kind { result.kind ≡ kind_at self.now register.now }
     {
         FieldFacts {
-            readable: facts.readable && may_read(self.access),
-            writable: facts.writable && may_write(self.access),
+            readable: facts.readable && self.access.is_none_or(can_read),
+            writable: facts.writable && self.access.is_none_or(can_write),
             kind: self.kind.or(register.kind).unwrap_or(WriteKind::Modify),
         }
     }
@@ -135,37 +117,13 @@ fn is_written_only(access: Option<Access>) -> bool
 fn can_read(access: Access) -> bool
     ensures { result ≡ can_read access }
 {
-    match access {
-        Access::ReadOnly | Access::ReadWrite | Access::ReadWriteOnce => true,
-        Access::WriteOnly | Access::WriteOnce => false,
-    }
+    !matches!(access, Access::WriteOnly | Access::WriteOnce)
 }
 
 fn can_write(access: Access) -> bool
     ensures { result ≡ can_write access }
 {
-    match access {
-        Access::ReadOnly => false,
-        Access::WriteOnly | Access::ReadWrite | Access::WriteOnce | Access::ReadWriteOnce => true,
-    }
-}
-
-fn may_read(access: Option<Access>) -> bool
-    ensures { result ≡ passes_at can_read access }
-{
-    match access {
-        Some(access) => can_read(access),
-        None => true,
-    }
-}
-
-fn may_write(access: Option<Access>) -> bool
-    ensures { result ≡ passes_at can_write access }
-{
-    match access {
-        Some(access) => can_write(access),
-        None => true,
-    }
+    access != Access::ReadOnly
 }
 
 /// The reset word of a register of that size.

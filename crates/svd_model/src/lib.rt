@@ -20,7 +20,10 @@ pub use copy::{
 pub use counted::Counted;
 pub use device::{Child, Cluster, Device, Dim, Field, Item, Peripheral, Register, Values, Variant};
 pub use facts::{FieldFacts, RegisterFacts};
-pub use laws::visits_law;
+pub use laws::{facts_law, visits_law};
 pub use props::{Props, properties_law};
 pub use sibling::Sibling;
-pub use states::{Checked, Derived, Described, Patched, Unfolded};
+pub use states::{
+    Checked, Derived, Described, Fact, OfChecked, OfDerived, OfDescribed, OfPatched, OfUnfolded,
+    Patched, State, Unfolded,
+};

@@ -1,12 +1,15 @@
-use Rattle.std.proofs.Common.{Bool, Bor, Ok, refl, ap, ◌∙◌, subst}
+use Rattle.std.proofs.Common.{◌≡◌, Bool, Bor, Ok, refl, ap, ◌∙◌, subst}
 use Rattle.std.proofs.lemmas.Result.{err_from_is_err_and}
 use Rattle.crate_form.proofs.Forming.{emitted_has_form}
 use Rattle.crate_form.specs.Crates.{emitted}
 use Rattle.frag_emit.specs.Parts.{PrintsNext}
-use Rattle.svd_model.specs.declared.states.Checked.{Checked}
 use Rattle.frag_emit.proofs.Standing.{built_stands}
 use Rattle.frag_emit.proofs.Printing.{begun_text, broken_text, ended_forms, ended_text, fewer_left, printed_more}
 use Rattle.frag_emit.proofs.emitter.print_text.Goals as goal
+
+-- equal references lend equal values
+same_now : {A : Type 0} (one other : Bor A) → one ≡ other → one.now ≡ other.now
+same_now {A = A} one other same = ap (λ (lent : Bor A). lent.now) same
 
 pub loop-init : goal.loop-init
 loop-init g c = begun_text c.args.state.now (g.S.Sink.written c.args.sink.now) (g.S.Sink.faults c.args.sink.now)
@@ -35,7 +38,7 @@ loop-smaller g c =
 pub loop-preserved : goal.loop-preserved
 loop-preserved g c =
     let next = subst (λ (printed : Bool). PrintsNext (Ok printed) (emitted c.loop.emitter.state.now) c.loop.emitter.done c.next.new.self.done (g.S.Sink.written c.loop.sink) (g.S.Sink.written c.next.new.sink)) c.if-branch.true c.in_ok-next.ensures.part in
-    printed_more c.args.state.now c.loop.emitter.state.now c.next.new.self.state.now c.loop.emitter.done c.next.new.self.done (g.S.Sink.faults c.next.new.sink) c.loop.invariant (ap (λ (state : Bor Checked). state.now) c.in_ok-next.ensures.state) next.count next.part c.in_ok-next.ensures.cause
+    printed_more c.args.state.now c.loop.emitter.state.now c.next.new.self.state.now c.loop.emitter.done c.next.new.self.done (g.S.Sink.faults c.next.new.sink) c.loop.invariant (same_now _ _ c.in_ok-next.ensures.state) next.count next.part c.in_ok-next.ensures.cause
 
 pub returns-clause-growth : goal.returns-clause-growth
 returns-clause-growth g c =

@@ -1,21 +1,18 @@
-use Rattle.std.proofs.Common.{map, arith, ap, zero-add}
-use Rattle.svd_model.specs.Counting.{told_count, elements_in}
+use Rattle.std.proofs.Common.{map, arith, ap}
 use Rattle.svd_model.specs.Steps.{set}
 use Rattle.svd_model.specs.Trees.{set_tree, numbered}
-use Rattle.svd_model.proofs.Counts.{sets-on, sets-all, told-fits}
+use Rattle.svd_model.proofs.Counts.{none_counted, set_counted, all_counted}
+use Rattle.svd_model.proofs.Lists.{drop_past}
 use Rattle.svd_model.proofs.counting.values_in.Goals as goal
 
 pub loop-values-init : goal.loop-values-init
-loop-values-init c = record { sum = ap told_count (zero-add _); fits = omega arith }
+loop-values-init c = none_counted _
 
 pub loop-values-preserved : goal.loop-values-preserved
-loop-values-preserved c = record {
-  sum =
-      sets-on c.more-total.result c.loop-values.total c.len.result (told_count (elements_in (numbered set 0 (map set_tree c.args.sets.now)))) c.loop-values.values-index c.args.sets.now c.values-item.result
-      c.loop-values-test.true c.values-item.is (omega (arith, c.len.ensures, c.values-item.result.items.ok.0)) c.more-total.ensures c.loop-values.invariant.sum;
-  fits = told-fits c.more-total.result _ c.more-total.ensures;
-}
+loop-values-preserved c =
+    set_counted _ _ _ _ c.args.sets.now c.values-item.result _ c.loop-values-test.true c.values-item.is (omega (arith, c.len.ensures, c.values-item.result.items.ok.0)) c.saturating_add-total.ensures c.loop-values.invariant
 
 pub returns : goal.returns
+unfolding numbered
 returns c =
-    sets-all c.loop-values.total (told_count (elements_in (numbered set 0 (map set_tree c.args.sets.now)))) c.loop-values.values-index c.args.sets.now c.loop-values.invariant.fits c.loop-values-test.false c.loop-values.invariant.sum
+    all_counted _ _ _ (ap (λ sets. numbered set c.loop-values.values-index (map set_tree sets)) (drop_past c.args.sets.now c.loop-values.values-index c.loop-values-test.false)) c.loop-values.invariant
