@@ -11,15 +11,15 @@ use Rattle.dim_expand.specs.declared.walk.Found.{Found}
 use Rattle.dim_expand.specs.Causes.{cause_at}
 use Rattle.dim_expand.specs.Marks.{has_dimension}
 use Rattle.dim_expand.specs.Unfolding.{groups_of, group_step, group_keys, count_behind, numbered_behind}
-use Rattle.dim_expand.specs.Walks.{capped, exact, first_in, named, found_here, groups, group_of, numbered_list, unfolded_list, unfolded, AreTyped, has_below}
+use Rattle.dim_expand.specs.Walks.{capped, exact, has_list, first_in, named, found_here, groups, group_of, numbered_list, unfolded_list, unfolded, AreTyped, has_below}
 use Rattle.dim_expand.proofs.Element.{IsFine, groups-agree, groups-form}
 use Rattle.dim_expand.proofs.Growing.{count-append, count-one}
-use Rattle.dim_expand.proofs.Keyed.{plain-stay}
-use Rattle.svd_model.specs.Facts.{IsElement, IsPlaced, IsUnfoldedElement}
+use Rattle.dim_expand.proofs.Keyed.{ArePlain, KeepNumbers, plain-stay, stay}
+use Rattle.svd_model.specs.Facts.{HasForm, IsElement, IsPlaced, IsUnfoldedElement}
 use Rattle.svd_model.specs.Keys.{Key}
 use Rattle.svd_model.specs.Steps.{Step, Kind, peripheral, cluster, register, field, set, value, same_key}
-use Rattle.svd_rows.specs.Elements.{IsDistinct, Every}
-use Rattle.svd_rows.specs.Forest.{Forest, Tree, leaf, node, siblings}
+use Rattle.svd_rows.specs.Elements.{IsAbsent, IsDistinct, Every}
+use Rattle.svd_rows.specs.Forest.{Forest, Tree, leaf, node, siblings, steps}
 use Rattle.svd_rows.proofs.Siblings.{Every-siblings, IsDistinct-siblings}
 
 -- siblings that may have a dimension or may not, whose dimensions are without fault, and all below them
@@ -71,14 +71,72 @@ below-plain field e = absurd cc
 below-plain set e = refl
 below-plain value e = refl
 
-plain : (f : Forest Step Key) → AreFine false f → Every (λ step keys. has_dimension step.kind ≡ false) f
+plain : (f : Forest Step Key) → AreFine false f → ArePlain f
 unfolding AreFine Every
 plain leaf h = tt
 plain (node s ks c n) h = (h.0, plain c (subst (λ b. AreFine b c) (below-plain s.kind h.0) h.2), plain n h.3)
 
 plain-unfolded : (f : Forest Step Key) → AreFine false f → unfolded exact f ≡ f
 unfolding unfolded
-plain-unfolded f h = ap (λ xs. siblings (numbered_list [] xs)) (sym (agree false f h)) ∙ plain-stay [] f (plain f h)
+plain-unfolded f h = ap (λ xs. siblings (numbered_list [] xs)) (sym (agree false f h)) ∙ plain-stay f (plain f h)
+
+-- ---- distinct siblings without a list stay
+
+-- numbers are 0 where an element may have a dimension
+number-none : (s : Step) (ks : List Key) → IsElement IsPlaced s ks → has_dimension s.kind ≡ true → s.number ≡ 0
+number-none s ks element = by s.kind element.form
+  where
+    by : (kind : Kind) → HasForm IsPlaced (record { kind = kind; name = s.name; number = s.number }) ks → has_dimension kind ≡ true → s.number ≡ 0
+    by peripheral h may = h
+    by cluster h may = h
+    by register h may = h
+    by field h may = h.0
+    by set h may = absurd cc
+    by value h may = absurd cc
+
+-- no sibling before has the name of one that may have a dimension
+AreNew : List (List ℕ) → Forest Step Key → Type 0
+AreNew before f = AllByRecursion (λ s. has_dimension s.kind ≡ true → count_behind before s.name ≡ 0) (steps f)
+
+first-new : (f : Forest Step Key) → AreNew [] f
+unfolding AreNew steps
+first-new leaf = tt
+first-new (node s ks c n) = (λ may. refl, first-new n)
+
+next-new : (dims : Bool) (s : Step) (before : List (List ℕ)) (f : Forest Step Key) → (dims ≡ true → s.number ≡ 0) → AreFine dims f → IsAbsent same_key s f → AreNew before f → AreNew (before ++ s.name ∷ []) f
+unfolding AreNew AreFine steps same_key
+next-new dims s before leaf zeros fine absent new = tt
+next-new dims s before (node t ks c n) zeros fine absent new = (
+  λ may.
+      count-append before (s.name ∷ []) t.name
+      ∙ ap₂ (λ a b. a + (cond b 1 0 + 0)) (new.0 may) (other (bytes_eq t.name s.name) refl (ap₂ (λ a b. bytes_eq s.name t.name && nat_eq a b) (sym (zeros (sym fine.0 ∙ may))) (sym (number-none t ks fine.1.element may)) ∙ absent.0)),
+  next-new dims s before n zeros fine.3 absent.1 new.1,
+)
+  where
+    other : (b : Bool) → bytes_eq t.name s.name ≡ b → (bytes_eq s.name t.name && true) ≡ false → bytes_eq t.name s.name ≡ false
+    other false e f = e
+    other true e f =
+        let same : s.name ≡ t.name = sym ((bytes_decides t.name s.name).0 e) in
+        absurd (let g : true ≡ false = ap (λ b. b && true) (sym ((bytes_decides s.name t.name).1 same)) ∙ f in cc)
+
+kept : (dims : Bool) (before : List (List ℕ)) (f : Forest Step Key) → AreFine dims f → IsDistinct same_key f → AreNew before f → KeepNumbers before f
+unfolding AreFine AreNew IsDistinct KeepNumbers numbered_behind steps
+kept dims before leaf fine distinct new = tt
+kept dims before (node s ks c n) fine distinct new = (
+  ap (λ number. record { kind = s.kind; name = s.name; number = number }) (by (has_dimension s.kind) refl),
+  kept (has_below s.kind) [] c fine.2 distinct.1 (first-new c),
+  kept dims (before ++ s.name ∷ []) n fine.3 distinct.2 (next-new dims s before n (λ e. number-none s ks fine.1.element (fine.0 ∙ e)) fine.3 distinct.0 new.1),
+)
+  where
+    by : (b : Bool) → has_dimension s.kind ≡ b → cond (has_dimension s.kind) (count_behind before s.name) s.number ≡ s.number
+    by true may = ap (λ b. cond b (count_behind before s.name) s.number) may ∙ new.0 may ∙ sym (number-none s ks fine.1.element may)
+    by false may = ap (λ b. cond b (count_behind before s.name) s.number) may
+
+pub unlisted : (f : Forest Step Key) → AreFine true f → IsDistinct same_key f → has_list f ≡ false → unfolded exact f ≡ f
+unfolding unfolded
+unlisted f fine distinct none =
+    ap (λ xs. siblings (numbered_list [] xs)) (sym (agree true f fine))
+    ∙ stay [] f none (kept true [] f fine distinct (first-new f))
 
 -- ---- siblings are distinct
 

@@ -1,9 +1,12 @@
 -- The keys of a group, place by place; and what has no dimension stays as it is.
-use Rattle.std.proofs.Common.{◌≡◌, ℕ, ◌+◌, ◌*◌, Bool, true, false, cond, not, ◌&&◌, List, [], ◌∷◌, ◌++◌, map, filter, Option, None, Some, option_map, option_and_then, unwrap_or, refl, sym, ap, ap₂, ◌∙◌}
+use Rattle.std.proofs.Common.{◌≡◌, ℕ, ◌+◌, ◌*◌, Bool, true, false, cond, not, ◌&&◌, ◌||◌, List, [], ◌∷◌, ◌++◌, map, filter, Option, None, Some, option_map, option_and_then, unwrap_or, refl, sym, ap, ◌∙◌, if◌then◌else◌}
+use Rattle.std.specs.Bool.{⊤}
+use Rattle.std.specs.Option.{option_or}
+use Rattle.dim_expand.specs.Causes.{cause_at, dim_cause, stated_index}
 use Rattle.dim_expand.specs.Groups.{HasDim}
-use Rattle.dim_expand.specs.Marks.{has_dimension, may_be_array, is_list, is_list_name}
+use Rattle.dim_expand.specs.Marks.{has_dimension, may_be_array, is_list, is_list_name, is_marked}
 use Rattle.dim_expand.specs.Unfolding.{is_dimension, groups_of, numbered_behind, count_behind}
-use Rattle.dim_expand.specs.Walks.{capped, capped_key, capped_keys, capped_sum, capped_step, group_dim, group_start, group_of, group_tree, numbered_list, unfolded_list, unfolded}
+use Rattle.dim_expand.specs.Walks.{named, found_here, first_in, has_list, capped, capped_key, capped_keys, capped_sum, capped_step, group_dim, group_start, group_of, group_tree, numbered_list, unfolded_list, unfolded}
 use Rattle.dim_expand.proofs.Stated.{peripheral-dim, cluster-dim, register-dim, field-dim}
 use Rattle.pac_base.specs.declared.path.Step.{Step as NamedStep}
 use Rattle.svd_model.specs.declared.device.Child.{Child}
@@ -141,29 +144,68 @@ pub no_list : (step : Step) → has_dimension step.kind ≡ false → is_list st
 unfolding is_list
 no_list step may = ap (λ b. b && is_list_name (may_be_array step.kind) step.name) may
 
--- siblings that have no dimension, with none below them, stay as they are
-pub plain-stay : (before : List (List ℕ)) (f : Forest Step Key) → Every (λ step keys. has_dimension step.kind ≡ false) f → siblings (numbered_list before (unfolded_list capped f)) ≡ f
-unfolding Every siblings numbered_list unfolded_list capped_step capped_keys numbered_behind
-plain-stay before leaf h = refl
-plain-stay before (node s ks c n) h =
-    ap (λ all. siblings (numbered_list before (map (group_of capped s ks (siblings (numbered_list [] (unfolded_list capped c)))) all ++ unfolded_list capped n))) (alone s ks (no_list s h.0))
-    ∙ ap (λ b. node (record { kind = s.kind; name = s.name; number = cond b (count_behind before s.name) s.number }) ks (siblings (numbered_list [] (unfolded_list capped c))) (siblings (numbered_list (before ++ s.name ∷ []) (unfolded_list capped n)))) h.0
-    ∙ ap₂ (node s ks) (plain-stay [] c h.1) (plain-stay (before ++ s.name ∷ []) n h.2)
+-- siblings that are renumbered keep their numbers, and so do all below them
+unfoldable pub KeepNumbers : List (List ℕ) → Forest Step Key → Type 0
+KeepNumbers before leaf = ⊤
+KeepNumbers before (node s ks c n) =
+    (numbered_behind before s ≡ s) × KeepNumbers [] c × KeepNumbers (before ++ s.name ∷ []) n
 
-values-plain : (n : ℕ) (all : List Variant) → Every (λ step keys. has_dimension step.kind ≡ false) (numbered value n (map value_tree all))
+or-none : (a b : Bool) → (a || b) ≡ false → (a ≡ false) × (b ≡ false)
+or-none true b e = absurd cc
+or-none false b e = (refl, e)
+
+-- siblings that keep their numbers, where no list is among them or below them, stay as they are
+pub stay : (before : List (List ℕ)) (f : Forest Step Key) → has_list f ≡ false → KeepNumbers before f → siblings (numbered_list before (unfolded_list capped f)) ≡ f
+unfolding has_list KeepNumbers siblings numbered_list unfolded_list capped_step capped_keys
+stay before leaf none kept = refl
+stay before (node s ks c n) none kept =
+    let both = or-none (is_list s || has_list c) (has_list n) none in
+    let here = or-none (is_list s) (has_list c) both.0 in
+    ap (λ all. siblings (numbered_list before (map (group_of capped s ks (siblings (numbered_list [] (unfolded_list capped c)))) all ++ unfolded_list capped n))) (alone s ks here.0)
+    ∙ (λ i. node (kept.0 i) ks (stay [] c here.1 kept.1 i) (stay (before ++ s.name ∷ []) n both.1 kept.2 i))
+
+-- ---- what has no dimension is no list, has no fault, and keeps its number
+
+abbrev pub ArePlain : Forest Step Key → Type 0
+ArePlain = Every (λ step keys. has_dimension step.kind ≡ false)
+
+pub plain-unlisted : (f : Forest Step Key) → ArePlain f → has_list f ≡ false
+unfolding has_list Every
+plain-unlisted leaf h = refl
+plain-unlisted (node s ks c n) h = λ i. (no_list s h.0 i || plain-unlisted c h.1 i) || plain-unlisted n h.2 i
+
+pub plain-first : (f : Forest Step Key) → ArePlain f → first_in f ≡ None
+unfolding first_in Every cause_at
+plain-first leaf h = refl
+plain-first (node s ks c n) h =
+    λ i. option_or (named s.name (found_here (if h.0 i then dim_cause (is_marked s.name) (value_of stated_dim ks) (value_of stated_index ks) else None) (plain-first c h.1 i))) (plain-first n h.2 i)
+
+plain-kept : (before : List (List ℕ)) (f : Forest Step Key) → ArePlain f → KeepNumbers before f
+unfolding Every KeepNumbers numbered_behind
+plain-kept before leaf h = tt
+plain-kept before (node s ks c n) h = (
+  λ i. record { kind = s.kind; name = s.name; number = cond (h.0 i) (count_behind before s.name) s.number },
+  plain-kept [] c h.1,
+  plain-kept (before ++ s.name ∷ []) n h.2,
+)
+
+pub plain-stay : (f : Forest Step Key) → ArePlain f → unfolded capped f ≡ f
+unfolding unfolded
+plain-stay f h = stay [] f (plain-unlisted f h) (plain-kept [] f h)
+
+values-plain : (n : ℕ) (all : List Variant) → ArePlain (numbered value n (map value_tree all))
 unfolding Every numbered
 values-plain n [] = tt
 values-plain n (x ∷ xs) = (refl, tt, values-plain (n + 1) xs)
 
-sets-plain : (n : ℕ) (all : List Values) → Every (λ step keys. has_dimension step.kind ≡ false) (numbered set n (map set_tree all))
+pub sets-plain : (n : ℕ) (all : List Values) → ArePlain (numbered set n (map set_tree all))
 unfolding Every numbered
 sets-plain n [] = tt
 sets-plain n (x ∷ xs) = (refl, values-plain 0 x.items.items, sets-plain (n + 1) xs)
 
 -- the sets of a field stay
 pub sets-stay : (all : List Values) → unfolded capped (numbered set 0 (map set_tree all)) ≡ numbered set 0 (map set_tree all)
-unfolding unfolded
-sets-stay all = plain-stay [] (numbered set 0 (map set_tree all)) (sets-plain 0 all)
+sets-stay all = plain-stay (numbered set 0 (map set_tree all)) (sets-plain 0 all)
 
 -- ---- groups that are made
 

@@ -1,6 +1,5 @@
 pub mod Stated
-pub mod Firsts
-pub mod Counting
+pub mod Surveying
 pub mod Groups
 pub mod Growing
 pub mod Keyed

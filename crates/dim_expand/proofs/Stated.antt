@@ -78,14 +78,14 @@ device-no-dim e = found stated_dim 2 other-dim (device_places e) (device-placed 
 
 -- ---- typed elements
 
-ranked_at : (places : List (Option Key)) → IsPlaced rank 0 places → IsRanked rank (stated places)
+pub ranked_at : (places : List (Option Key)) → IsPlaced rank 0 places → IsRanked rank (stated places)
 ranked_at places placed = stated-ranked rank 0 places placed
 
-typed_at : (step : Step) (places : List (Option Key)) (dim : Dim) → IsPlaced rank 0 places → HasDim (stated places) dim → has_dimension step.kind ≡ true → IsName step.name → unwrap_or dim.step 0 < 2 ^ 64 → IsTyped step (stated places)
-typed_at step places dim placed says may named small = record {
+pub typed_at : (step : Step) (keys : List Key) (dim : Dim) → IsRanked rank keys → HasDim keys dim → has_dimension step.kind ≡ true → IsName step.name → unwrap_or dim.step 0 < 2 ^ 64 → IsTyped step keys
+typed_at step keys dim ranked says may named small = record {
   named = λ _. named;
   plain = λ e. absurd (let f : true ≡ false = sym may ∙ e in cc);
-  ranked = ranked_at places placed;
+  ranked = ranked;
   small = subst (λ o. unwrap_or o 0 < 2 ^ 64) (sym says.step) small;
 }
 
@@ -96,18 +96,6 @@ plain_at step places placed says may = record {
   ranked = ranked_at places placed;
   small = subst (λ o. unwrap_or o 0 < 2 ^ 64) (sym says.step) (omega arith);
 }
-
-pub peripheral-typed : (step : Step) (e : Peripheral) → step.kind ≡ peripheral → IsName step.name → unwrap_or e.dim.step 0 < 2 ^ 64 → IsTyped step (stated (peripheral_places e))
-peripheral-typed step e is named small = typed_at step (peripheral_places e) e.dim (peripheral-placed e) (peripheral-dim e) (ap has_dimension is) named small
-
-pub cluster-typed : {A B C : Type 0} (step : Step) (e : Cluster-F A B C) → step.kind ≡ cluster → IsName step.name → unwrap_or e.dim.step 0 < 2 ^ 64 → IsTyped step (stated (cluster_places e))
-cluster-typed step e is named small = typed_at step (cluster_places e) e.dim (cluster-placed e) (cluster-dim e) (ap has_dimension is) named small
-
-pub register-typed : (step : Step) (e : Register) → step.kind ≡ register → IsName step.name → unwrap_or e.dim.step 0 < 2 ^ 64 → IsTyped step (stated (register_places e))
-register-typed step e is named small = typed_at step (register_places e) e.dim (register-placed e) (register-dim e) (ap has_dimension is) named small
-
-pub field-typed : (step : Step) (e : Field) → step.kind ≡ field → IsName step.name → unwrap_or e.dim.step 0 < 2 ^ 64 → IsTyped step (stated (field_places e))
-field-typed step e is named small = typed_at step (field_places e) e.dim (field-placed e) (field-dim e) (ap has_dimension is) named small
 
 pub set-typed : (step : Step) (e : Values) → step.kind ≡ set → IsTyped step (stated (set_places e))
 set-typed step e is = plain_at step (set_places e) (set-placed e) (set-dim e) (ap has_dimension is)

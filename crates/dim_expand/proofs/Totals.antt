@@ -8,7 +8,7 @@ use Rattle.dim_expand.specs.Faults.{amount_of}
 use Rattle.dim_expand.specs.Marks.{is_list}
 use Rattle.dim_expand.specs.Unfolding.{groups_of, group_step, group_keys, numbered_behind, is_dimension, moved_key, distance_of}
 use Rattle.dim_expand.specs.Walks.{exact, groups, group_of, numbered_list, unfolded_list, unfolded, unfolded_tree, weight_of, weighed, counts_kind, has_below}
-use Rattle.dim_expand.proofs.Counting.{sum-cons}
+use Rattle.dim_expand.proofs.Surveying.{sum-cons}
 use Rattle.dim_expand.proofs.Element.{IsFine, FreeBy, free-by, list-kind, list-marked}
 use Rattle.dim_expand.proofs.Fine.{AreFine}
 use Rattle.svd_model.specs.declared.counted.Counted.{Counted}

@@ -1,15 +1,17 @@
 -- A whole device: what is made of it, and its first fault.
-use Rattle.std.proofs.Common.{◌≡◌, ℕ, ◌≤◌, Bool, true, false, nat_lt, [], length, Option, None, Some, option_map, refl, sym, ap, ◌∙◌, subst, arith, if◌then◌else◌}
+use Rattle.std.proofs.Common.{◌≡◌, ℕ, ◌≤◌, ◌<◌, ◌^◌, ◌-◌, Bool, true, false, nat_lt, [], length, Option, None, Some, Ok, Err, option_map, refl, sym, ap, ap₂, ◌∙◌, subst, arith, if◌then◌else◌}
 use Rattle.std.specs.Option.{option_or}
 use Rattle.std.proofs.lemmas.Bool.Decides.{nat_tests}
+use Rattle.dim_expand.specs.declared.amounts.Amounts.{Amounts}
 use Rattle.dim_expand.specs.declared.fault.DimFault.{DimFault}
 use Rattle.dim_expand.specs.declared.fault.DimFault.TheVariants.{TooMany}
 use Rattle.dim_expand.specs.declared.walk.Found.{Found}
+use Rattle.dim_expand.specs.declared.walk.Stop.TheVariants.{Fault}
 use Rattle.dim_expand.specs.Faults.{amount_of, first_fault, first_past, past_limit, limit_of}
 use Rattle.dim_expand.specs.Unfolding.{unfolded_rows}
 use Rattle.dim_expand.specs.Narrow.{IsNarrowForest}
-use Rattle.dim_expand.specs.Walks.{capped, exact, first_in, fault_in, told_found, unfolded, unfolded_list, unfolded_tree, weighed, numbered_list, AreTyped}
-use Rattle.dim_expand.proofs.Fine.{AreFine, fine, agree, distinct, forms}
+use Rattle.dim_expand.specs.Walks.{amount_in, capped, exact, first_in, fault_in, told_found, unfolded, unfolded_list, unfolded_tree, weighed, numbered_list, AreTyped, IsFaultless, Surveys}
+use Rattle.dim_expand.proofs.Fine.{AreFine, fine, agree, distinct, forms, unlisted}
 use Rattle.dim_expand.proofs.FirstFault.{first-of-all}
 use Rattle.dim_expand.proofs.Flat.{flat}
 use Rattle.dim_expand.proofs.Narrow.{few, narrow}
@@ -38,10 +40,6 @@ all_fine tree folded typed none = fine tree.below folded.elements typed none
 same-tree : (tree : Tree Step Key) → AreFine true tree.below → unfolded_tree capped tree ≡ unfolded_tree exact tree
 unfolding unfolded
 same-tree tree h = ap (λ list. record { keys = tree.keys; below = siblings (numbered_list [] list) }) (agree true tree.below h)
-
-pub whole-rows : (tree : Tree Step Key) → IsFolded IsPlaced tree → AreTyped true tree.below → first_in tree.below ≡ None → rows (unfolded_tree capped tree) ≡ unfolded_rows (rows tree)
-whole-rows tree folded typed none =
-    ap rows (same-tree tree (all_fine tree folded typed none)) ∙ sym (flat tree (steps-distinct tree folded))
 
 -- ---- counts
 
@@ -94,43 +92,86 @@ are-within amount e =
       values = within-limit Values (amount Values) three.1;
     }
 
-pub whole-fact : (tree : Tree Step Key) → IsFolded IsPlaced tree → value_of stated_dim tree.keys ≡ None → AreTyped true tree.below → fault_in tree.below ≡ None → IsUnfoldedTree (unfolded_tree capped tree)
-whole-fact tree folded plain typed none =
-    subst IsUnfoldedTree (sym (same-tree tree h)) (record {
-      distinct = unfolded-distinct tree folded h;
-      elements = forms tree.below h;
+-- what is made of a device is what its flat rows say, and has the form of what is unfolded
+pub record IsWhole (tree made : Tree Step Key) : Type 0 where
+  pub rows : rows made ≡ unfolded_rows (rows tree)
+  pub fact : IsUnfoldedTree made
+
+module _ (tree : Tree Step Key) (folded : IsFolded IsPlaced tree) (plain : value_of stated_dim tree.keys ≡ None) (listed : Bool) (faultless : IsFaultless tree.below listed) where
+  within : AreWithin (λ counted. weighed counted tree.below)
+  within = are-within (λ counted. weighed counted tree.below) (both-none (option_map told_found (first_in tree.below)) (first_past (λ counted. weighed counted tree.below)) faultless.none).1
+
+  fine_below : AreFine true tree.below
+  fine_below = all_fine tree folded faultless.typed (none-found tree.below faultless.none)
+
+  whole : IsWhole tree (unfolded_tree exact tree)
+  whole = record {
+    rows = sym (flat tree (steps-distinct tree folded));
+    fact = record {
+      distinct = unfolded-distinct tree folded fine_below;
+      elements = forms tree.below fine_below;
       few = record {
-        elements = subst (λ n. n ≤ limit_of Elements) (sym (unfolded-amounts tree folded plain h Elements)) within.elements;
-        registers = subst (λ n. n ≤ limit_of Registers) (sym (unfolded-amounts tree folded plain h Registers)) within.registers;
-        fields = subst (λ n. n ≤ limit_of Fields) (sym (unfolded-amounts tree folded plain h Fields)) within.fields;
-        values = subst (λ n. n ≤ limit_of Values) (sym (unfolded-amounts tree folded plain h Values)) within.values;
+        elements = subst (λ n. n ≤ limit_of Elements) (sym (unfolded-amounts tree folded plain fine_below Elements)) within.elements;
+        registers = subst (λ n. n ≤ limit_of Registers) (sym (unfolded-amounts tree folded plain fine_below Registers)) within.registers;
+        fields = subst (λ n. n ≤ limit_of Fields) (sym (unfolded-amounts tree folded plain fine_below Fields)) within.fields;
+        values = subst (λ n. n ≤ limit_of Values) (sym (unfolded-amounts tree folded plain fine_below Values)) within.values;
       };
-    })
+    };
+  }
+
+  -- without a list the unfolded rows are the rows
+  pub whole-itself : listed ≡ false → IsWhole tree tree
+  whole-itself none =
+      subst (IsWhole tree) (ap (λ below. record { keys = tree.keys; below = below }) (unlisted tree.below fine_below folded.distinct (sym faultless.list ∙ none))) whole
+
+  pub whole-made : IsWhole tree (unfolded_tree capped tree)
+  whole-made = subst (IsWhole tree) (sym (same-tree tree fine_below)) whole
+
+  -- the siblings of what is unfolded are few at each level
+  pub whole-narrow : IsNarrowForest tree.below
+  whole-narrow = (omega (arith, most, few-below), narrow tree.below fine_below (omega (arith, most)))
+    where
+      few-below : length (unfolded_list capped tree.below) ≤ weighed Elements tree.below
+      few-below = few tree.below fine_below
+
+      most : weighed Elements tree.below ≤ limit_of Elements
+      most = within.elements
+
+-- ---- the first fault that the walk finds
+
+-- what counts up to 2^64 - 1 say of limits
+past-told : (counted : Counted) (n : ℕ) → past_limit counted (told_count n) ≡ past_limit counted n
+past-told counted n = by (nat_lt (limit_of counted) n) refl
   where
-    nothing : first_in tree.below ≡ None
-    nothing = none-found tree.below none
+    small : (counted : Counted) → limit_of counted < 2 ^ 64 - 1
+    small Elements = omega arith
+    small Registers = omega arith
+    small Fields = omega arith
+    small Values = omega arith
 
-    h : AreFine true tree.below
-    h = all_fine tree folded typed nothing
+    test : (limit : ℕ) (b : Bool) → limit < 2 ^ 64 - 1 → nat_lt limit n ≡ b → nat_lt limit (told_count n) ≡ b
+    test limit true short is = let less : limit < n = grind (arith, nat_tests, is) in let more : limit < told_count n = omega (arith, short, less) in grind (arith, nat_tests, more)
+    test limit false short is = let least : n ≤ limit = grind (arith, nat_tests, is) in let less : told_count n ≤ limit = omega (arith, least) in grind (arith, nat_tests, less)
 
-    within : AreWithin (λ counted. weighed counted tree.below)
-    within = are-within (λ counted. weighed counted tree.below) (both-none (option_map told_found (first_in tree.below)) (first_past (λ counted. weighed counted tree.below)) none).1
+    twice : told_count (told_count n) ≡ told_count n
+    twice = omega arith
 
--- the siblings of what is unfolded are few at each level
-pub whole-narrow : (tree : Tree Step Key) → IsFolded IsPlaced tree → AreTyped true tree.below → fault_in tree.below ≡ None → IsNarrowForest tree.below
-whole-narrow tree folded typed none = (omega (arith, most, few-below), narrow tree.below h (omega (arith, most)))
+    by : (b : Bool) → nat_lt (limit_of counted) n ≡ b → past_limit counted (told_count n) ≡ past_limit counted n
+    by b is =
+        ap₂ (λ c m. if c then Some (TooMany counted m) else None) (test (limit_of counted) b (small counted) is ∙ sym is) twice
+
+-- counts that a walk gives decide as the counts themselves do
+pub survey-past : (forest : Forest Step Key) (amounts : Amounts) → Surveys forest (Ok amounts) → first_past (amount_in amounts) ≡ fault_in forest
+survey-past forest amounts seen =
+    (λ i. option_or (same Elements i) (option_or (same Registers i) (option_or (same Fields i) (same Values i))))
+    ∙ ap (λ o. option_or (option_map told_found o) (first_past (λ counted. weighed counted forest))) (sym seen.faultless)
   where
-    nothing : first_in tree.below ≡ None
-    nothing = none-found tree.below none
+    same : (counted : Counted) → past_limit counted (amount_in amounts counted) ≡ past_limit counted (weighed counted forest)
+    same counted = ap (past_limit counted) (seen.count counted) ∙ past-told counted (weighed counted forest)
 
-    h : AreFine true tree.below
-    h = all_fine tree folded typed nothing
-
-    few-below : length (unfolded_list capped tree.below) ≤ weighed Elements tree.below
-    few-below = few tree.below h
-
-    most : weighed Elements tree.below ≤ limit_of Elements
-    most = (are-within (λ counted. weighed counted tree.below) (both-none (option_map told_found (first_in tree.below)) (first_past (λ counted. weighed counted tree.below)) none).1).elements
+pub survey-found : (forest : Forest Step Key) (found : Found) → Surveys forest (Err (Fault found)) → fault_in forest ≡ Some (told_found found)
+survey-found forest found first =
+    ap (λ o. option_or (option_map told_found o) (first_past (λ counted. weighed counted forest))) first
 
 -- something isn't nothing
 pub not-both : {A : Type 0} {x : A} {o : Option A} {P : Type 0} → Some x ≡ o → o ≡ None → P

@@ -1,17 +1,22 @@
 -- What the functions of this crate give, on the pure tree. That this is what the flat rows say is proved.
-use Rattle.std.specs.Prelude.{◌≡◌, ℕ, ◌+◌, ◌-◌, ◌*◌, ◌^◌, ◌<◌, min, Bool, true, false, not, cond, List, [], ◌∷◌, ◌++◌, map, filter, reverse, get_or, decimal, Option, None, Some, option_map, unwrap_or, if◌then◌else◌, ⊤}
+use Rattle.std.specs.Prelude.{◌≡◌, ℕ, ◌+◌, ◌-◌, ◌*◌, ◌^◌, ◌<◌, min, Bool, true, false, not, cond, ◌||◌, List, [], ◌∷◌, ◌++◌, map, filter, reverse, get_or, decimal, Option, None, Some, option_map, unwrap_or, Result, Ok, Err, if◌then◌else◌, ⊤}
 use Rattle.std.specs.Option.{option_or}
+use Rattle.dim_expand.specs.declared.amounts.Amounts.{Amounts}
 use Rattle.dim_expand.specs.declared.fault.Cause.{Cause}
 use Rattle.dim_expand.specs.declared.fault.DimFault.{DimFault}
 use Rattle.dim_expand.specs.declared.walk.Found.{Found}
+use Rattle.dim_expand.specs.declared.walk.Stop.{Stop}
+use Rattle.dim_expand.specs.declared.walk.Stop.TheVariants.{Fault, Memory}
 use Rattle.dim_expand.specs.Causes.{cause_at, stated_index}
 use Rattle.dim_expand.specs.Faults.{fault_of, first_past}
-use Rattle.dim_expand.specs.Marks.{has_dimension, is_list, is_list_name, before_mark, from_mark, indexed}
+use Rattle.dim_expand.specs.Groups.{HasDim}
+use Rattle.dim_expand.specs.Marks.{has_dimension, may_be_array, is_list, is_list_name, before_mark, from_mark, indexed}
 use Rattle.dim_expand.specs.Unfolding.{groups_of, group_step, group_keys, is_dimension, distance_of, numbered_behind}
 use Rattle.pac_base.specs.Names.{IsName, ends_name}
 use Rattle.svd_model.specs.declared.counted.Counted.{Counted}
 use Rattle.svd_model.specs.declared.counted.Counted.TheVariants.{Elements, Registers, Fields, Values}
 use Rattle.svd_model.specs.declared.device.Dim.{Dim}
+use Rattle.svd_model.specs.Counting.{told_count}
 use Rattle.svd_model.specs.Keys.{Key, rank, base_address, at_offset}
 use Rattle.svd_model.specs.Stating.{value_of, stated_dim, stated_increment}
 use Rattle.svd_model.specs.Steps.{Step, Kind, peripheral, cluster, register, field, set, value, same_kind}
@@ -37,13 +42,9 @@ first_in leaf = None
 first_in (node step keys children others) =
     option_or (named step.name (found_here (cause_at step.kind step.name keys) (first_in children))) (first_in others)
 
--- the first at an element of this kind and name, and below it, seen from the element
-abbrev pub first_below : Kind → List ℕ → Tree Step Key → Option Found
-first_below kind name tree = found_here (cause_at kind name tree.keys) (first_in tree.below)
-
--- the same, seen from its parent
+-- the first at an element and below it, seen from its parent
 abbrev pub first_at : (Step × Tree Step Key) → Option Found
-first_at element = named element.0.name (first_below element.0.kind element.0.name element.1)
+first_at x = named x.0.name (found_here (cause_at x.0.kind x.0.name x.1.keys) (first_in x.1.below))
 
 -- ---- counts
 
@@ -76,6 +77,32 @@ weighed counted (node step keys children others) =
 -- how much an element and those below it come to
 abbrev pub weighed_at : Counted → (Step × Tree Step Key) → ℕ
 weighed_at counted x = weight_of counted x.0 x.1.keys * (cond (counts counted x.0) 1 0 + weighed counted x.1.below)
+
+-- the amounts of a walk, one by one
+abbrev pub amount_in : Amounts → Counted → ℕ
+amount_in amounts Elements = amounts.elements
+amount_in amounts Registers = amounts.registers
+amount_in amounts Fields = amounts.fields
+amount_in amounts Values = amounts.values
+
+-- the amounts of one element of the kind, without what stands below it
+abbrev pub one_of : Kind → Amounts
+one_of kind =
+    record { elements = one Elements; registers = one Registers; fields = one Fields; values = one Values; has_list = false }
+  where
+    one : Counted → ℕ
+    one counted = cond (counts_kind counted kind) 1 0
+
+-- ---- lists
+
+-- one of these elements or of those below them is a list
+unfoldable pub has_list : Forest Step Key → Bool
+has_list leaf = false
+has_list (node step keys children others) = (is_list step || has_list children) || has_list others
+
+-- the element is, or one below it
+abbrev pub has_list_at : (Step × Tree Step Key) → Bool
+has_list_at x = is_list x.0 || has_list x.1.below
 
 -- ---- the first fault
 
@@ -222,3 +249,51 @@ AreTyped dims (node step keys children others) =
 -- of an element that may have a dimension, and all below it
 abbrev pub IsTypedAt : (Step × Tree Step Key) → Type 0
 IsTypedAt x = (has_dimension x.0.kind ≡ true) × IsTyped x.0 x.1.keys × AreTyped (has_below x.0.kind) x.1.below
+
+-- ---- what the walk gives
+
+-- where none is at fault, the amounts, whether one is a list, and what the types say
+pub record IsSurvey (found : Option Found) (weight : Counted → ℕ) (listed : Bool) (typed : Type 0) (amounts : Amounts) : Type 0 where
+  pub faultless : found ≡ None
+  pub count : (counted : Counted) → amount_in amounts counted ≡ told_count (weight counted)
+  pub list : amounts.has_list ≡ listed
+  pub types : typed
+
+-- else the first at fault; want of memory may come in its place
+abbrev pub Gives : Option Found → (Counted → ℕ) → Bool → Type 0 → Result Amounts Stop → Type 0
+Gives found weight listed typed (Ok amounts) = IsSurvey found weight listed typed amounts
+Gives found weight listed typed (Err (Fault first)) = found ≡ Some first
+Gives found weight listed typed (Err Memory) = ⊤
+
+-- of siblings that may have a dimension, and all below them
+abbrev pub Surveys : Forest Step Key → Result Amounts Stop → Type 0
+Surveys f = Gives (first_in f) (λ counted. weighed counted f) (has_list f) (AreTyped true f)
+
+-- of all below an element
+abbrev pub SurveysBelow : (Step × Tree Step Key) → Result Amounts Stop → Type 0
+SurveysBelow x =
+    Gives (first_in x.1.below) (λ counted. weighed counted x.1.below) (has_list x.1.below) (AreTyped (has_below x.0.kind) x.1.below)
+
+-- of an element that may have a dimension, and all below it
+abbrev pub SurveysAt : (Step × Tree Step Key) → Result Amounts Stop → Type 0
+SurveysAt x = Gives (first_at x) (λ counted. weighed_at counted x) (has_list_at x) (IsTypedAt x)
+
+-- an element that may have a dimension has this name and dimension, may be an array or not, and counts for so much itself
+pub record HasParts (arrays : Bool) (name : List ℕ) (dim : Dim) (own : Amounts) (x : Step × Tree Step Key) : Type 0 where
+  pub may : has_dimension x.0.kind ≡ true
+  pub array : may_be_array x.0.kind ≡ arrays
+  pub named : x.0.name ≡ name
+  pub says : HasDim x.1.keys dim
+  pub ranked : IsRanked rank x.1.keys
+  pub itself : own ≡ one_of x.0.kind
+
+-- what is given of an element of these parts, where this is given of all below it
+abbrev pub Rounds : Bool → List ℕ → Dim → Amounts → Result Amounts Stop → Result Amounts Stop → Type 0
+Rounds arrays name dim own below result =
+    (x : Step × Tree Step Key) → HasParts arrays name dim own x → SurveysBelow x below → SurveysAt x result
+
+-- no fault below a device, and whether there is a list
+pub record IsFaultless (forest : Forest Step Key) (listed : Bool) : Type 0 where
+  pub none : fault_in forest ≡ None
+  pub typed : AreTyped true forest
+  pub list : listed ≡ has_list forest

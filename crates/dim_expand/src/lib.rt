@@ -3,8 +3,8 @@
 // told before anything is made.
 #![tactic(auto)]
 
+mod amounts;
 mod cause;
-mod count;
 mod fault;
 mod field;
 mod group;

@@ -1,17 +1,16 @@
-ghost use Rattle.std.specs.Prelude.{◌≡◌, true};
-ghost use Rattle.svd_model.specs.Trees.{device_tree};
-ghost use Rattle.dim_expand.specs.Faults.{limit_of, past_limit, first_past};
-ghost use Rattle.dim_expand.specs.Walks.{AreTyped, weighed};
+ghost use Rattle.std.specs.Prelude.{◌≡◌};
+ghost use Rattle.dim_expand.specs.Faults.{past_limit, first_past};
+ghost use Rattle.dim_expand.specs.Walks.{amount_in};
 
-use crate::count::peripherals_count;
+use crate::amounts::Amounts;
 use crate::fault::DimFault;
-use svd_model::{Counted, Device};
+use svd_model::Counted;
 
 /// How much of each there may be, where each list is unfolded.
-fn limit_of(counted: Counted) -> u64
-    ensures { result ≡ limit_of counted }
+fn limit_of(kind: Counted) -> u64
+    ensures { result ≡ Rattle.dim_expand.specs.Faults.limit_of kind }
 {
-    match counted {
+    match kind {
         Counted::Elements => 1_048_576,
         Counted::Registers => 262_144,
         Counted::Fields => 524_288,
@@ -20,35 +19,22 @@ fn limit_of(counted: Counted) -> u64
 }
 
 /// The fault where there is too much of it.
-#[tactic(auto, unfolding(svd_model::specs::Trees::device_tree))]
-fn past_limit(counted: Counted, device: &Device) -> Option<DimFault>
-    ensures fault { result ≡ past_limit counted (weighed counted (device_tree device.now).below) }
-    ensures typed { AreTyped true (device_tree device.now).below }
+fn past_limit(kind: Counted, count: u64) -> Option<DimFault>
+    ensures { result ≡ past_limit kind count }
 {
-    let count = peripherals_count(counted, &device.peripherals);
-    if limit_of(counted) < count {
-        Some(DimFault::TooMany {
-            kind: counted,
-            count,
-        })
+    if limit_of(kind) < count {
+        Some(DimFault::TooMany { kind, count })
     } else {
         None
     }
 }
 
 /// The first of the counts that passes its limit.
-pub fn first_past(device: &Device) -> Option<DimFault>
-    ensures fault { result ≡ first_past (λ counted. weighed counted (device_tree device.now).below) }
-    ensures typed { AreTyped true (device_tree device.now).below }
+pub fn first_past(amounts: Amounts) -> Option<DimFault>
+    ensures { result ≡ first_past (amount_in amounts) }
 {
-    if let Some(fault) = past_limit(Counted::Elements, device) {
-        return Some(fault);
-    }
-    if let Some(fault) = past_limit(Counted::Registers, device) {
-        return Some(fault);
-    }
-    if let Some(fault) = past_limit(Counted::Fields, device) {
-        return Some(fault);
-    }
-    past_limit(Counted::Values, device)
+    past_limit(Counted::Elements, amounts.elements)
+        .or(past_limit(Counted::Registers, amounts.registers))
+        .or(past_limit(Counted::Fields, amounts.fields))
+        .or(past_limit(Counted::Values, amounts.values))
 }

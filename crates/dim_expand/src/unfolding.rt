@@ -1,14 +1,14 @@
-ghost use Rattle.std.specs.Prelude.{◌≡◌, None, true, IfOk, IfErr, reverse};
+ghost use Rattle.std.specs.Prelude.{◌≡◌, None, IfOk, IfErr, reverse, unwrap_or};
 ghost use Rattle.svd_model.specs.Facts.{IsDerived, IsUnfolded};
 ghost use Rattle.svd_model.specs.Trees.{device_rows, device_tree};
 ghost use Rattle.dim_expand.specs.Faults.{first_fault, fault_of, IsFirst};
 ghost use Rattle.dim_expand.specs.Unfolding.{unfolded_rows};
-ghost use Rattle.dim_expand.specs.Walks.{fault_in, first_in, told_found, AreTyped};
+ghost use Rattle.dim_expand.specs.Walks.{told_found, IsFaultless};
 
 use crate::fault::{Cause, DimFault};
 use crate::limit::first_past;
 use crate::peripheral::unfolded_device;
-use crate::walk::{Found, first_in_peripherals};
+use crate::walk::{Found, Stop, peripherals_amounts};
 use pac_base::{Back, NoMemory, Path, Seq, Step};
 use std::alloc::Global;
 use svd_model::{Derived, Device, Unfolded};
@@ -46,46 +46,58 @@ fn told(alloc: Global, found: Found) -> Result<DimFault, NoMemory>
     Ok(fault_of(turned(alloc, &found.inner)?, found.cause))
 }
 
-/// The first fault of a device.
-fn fault_in(alloc: Global, device: &Device) -> Result<Option<DimFault>, NoMemory>
-    ensures fault { IfOk result (λ found. found ≡ fault_in (device_tree device.now).below) }
-    ensures typed { IfOk result (λ found. first_in (device_tree device.now).below ≡ None → AreTyped true (device_tree device.now).below) }
+/// Whether a device holds a list, or its first fault.
+fn has_list(alloc: Global, device: &Device) -> Result<bool, DimFault>
+    requires { IsDerived device.now }
+    ensures faultless { IfOk result (IsFaultless (device_tree device.now).below) }
+    ensures fault { IfErr result (IsFirst (device_rows device.now)) }
 {
-    match first_in_peripherals(alloc, &device.peripherals)? {
-        Some(found) => Ok(Some(told(alloc, found)?)),
-        None => Ok(first_past(device)),
+    match peripherals_amounts(alloc, &device.peripherals) {
+        Ok(amounts) => match first_past(amounts) {
+            Some(fault) => Err(fault),
+            None => Ok(amounts.has_list),
+        },
+        Err(Stop::Fault(found)) => match told(alloc, found) {
+            Ok(fault) => Err(fault),
+            Err(NoMemory) => Err(DimFault::Memory),
+        },
+        Err(Stop::Memory) => Err(DimFault::Memory),
     }
 }
 
-/// The device, where each list has become its members, or its first fault.
-fn unfolded(alloc: Global, device: &Device) -> Result<Device, DimFault>
+/// The device in which each list has become its members, where it holds one; or its first fault.
+fn unfolded(alloc: Global, device: &Device) -> Result<Option<Device>, DimFault>
     requires { IsDerived device.now }
-    ensures rows { IfOk result (λ made. device_rows made ≡ unfolded_rows (device_rows device.now)) }
-    ensures fact { IfOk result IsUnfolded }
+    ensures rows { IfOk result (λ made. device_rows (unwrap_or made device.now) ≡ unfolded_rows (device_rows device.now)) }
+    ensures fact { IfOk result (λ made. IsUnfolded (unwrap_or made device.now)) }
     ensures faultless { IfOk result (λ made. first_fault (device_rows device.now) ≡ None) }
     ensures fault { IfErr result (IsFirst (device_rows device.now)) }
 {
-    match fault_in(alloc, device) {
-        Ok(None) => match unfolded_device(alloc, device) {
-            Ok(made) => Ok(made),
+    if has_list(alloc, device)? {
+        match unfolded_device(alloc, device) {
+            Ok(made) => Ok(Some(made)),
             Err(NoMemory) => Err(DimFault::Memory),
-        },
-        Ok(Some(fault)) => Err(fault),
-        Err(NoMemory) => Err(DimFault::Memory),
+        }
+    } else {
+        Ok(None)
     }
 }
 
-/// The state in which each list has become its members. It is handed back, with the first fault, where it has one: the
-/// first element at fault in document order, and then the first count that passes its limit. Want of memory is the one
-/// other refusal.
+/// The state in which each list has become its members; a device that holds no list is handed on as it is. The state is
+/// handed back, with the first fault, where it has one: the first element at fault in document order, and then the first
+/// count that passes its limit. Want of memory is the one other refusal.
 pub fn unfold(alloc: Global, state: Derived) -> Result<Unfolded, Back<Derived, DimFault>>
     ensures rows { IfOk result (λ unfolded. unfolded ≡ unfolded_rows state) }
     ensures faultless { IfOk result (λ unfolded. first_fault state ≡ None) }
     ensures kept { IfErr result (λ back. back.state ≡ state) }
     ensures fault { IfErr result (λ back. IsFirst state back.fault) }
 {
-    match unfolded(alloc, state.device()) {
-        Ok(device) => Ok(Unfolded::new(device)),
-        Err(fault) => Err(Back { state, fault }),
+    let device = state.into_device();
+    match unfolded(alloc, &device) {
+        Ok(made) => Ok(Unfolded::new(made.unwrap_or(device))),
+        Err(fault) => Err(Back {
+            state: Derived::new(device),
+            fault,
+        }),
     }
 }

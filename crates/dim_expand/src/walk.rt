@@ -1,15 +1,17 @@
-ghost use Rattle.std.specs.Prelude.{◌≡◌, [], IfOk, map};
-ghost use Rattle.svd_model.specs.Trees.{item_under, cluster_tree, child_tree, field_under, register_tree, peripheral_under};
-ghost use Rattle.svd_rows.specs.Forest.{siblings};
+ghost use Rattle.std.specs.Prelude.{◌≡◌, ◌++◌, ◌∷◌, [], None, IfOk, map};
 ghost use Rattle.svd_model.specs.Steps.{cluster, register};
-ghost use Rattle.dim_expand.specs.Walks.{named, first_in, first_at, first_below};
+ghost use Rattle.svd_model.specs.Trees.{item_under, cluster_tree, register_tree, field_under, peripheral_under, step_of};
+ghost use Rattle.svd_rows.specs.Forest.{siblings};
+ghost use Rattle.dim_expand.specs.Walks.{Rounds, Surveys, SurveysAt};
+ghost use Rattle.dim_expand.specs.declared.walk.Stop.TheVariants as stop;
 
+use crate::amounts::{Amounts, sets_amounts};
 use crate::cause::dim_cause;
 use crate::fault::Cause;
 use indexmap::IndexMap;
 use pac_base::{Name, NoMemory, Path, Seq, Step};
 use std::alloc::Global;
-use svd_model::{Child, Cluster, Field, Item, Peripheral, Register, Sibling};
+use svd_model::{Child, Cluster, Dim, Field, Item, Peripheral, Register, Sibling};
 
 /// An element whose dimension is at fault. The steps of its path stand from the innermost to the outermost.
 #[derive(Drop)]
@@ -20,136 +22,135 @@ pub struct Found {
     pub cause: Cause,
 }
 
+/// Why a walk ends before the last element.
+#[derive(Drop)]
+pub enum Stop {
+    /// At the first element at fault.
+    Fault(Found),
+    /// Memory was wanting.
+    Memory,
+}
+
 /// What was found, seen from the parent of the element of that name.
-fn round(alloc: Global, found: Option<Found>, name: &Name) -> Result<Option<Found>, NoMemory>
-    ensures { IfOk result (λ made. made ≡ named name.now found) }
+fn round(alloc: Global, found: Found, name: &Name) -> Result<Found, NoMemory>
+    ensures { IfOk result (λ made. made ≡ record { inner = found.inner ++ record { name = name.now; index = None } ∷ []; cause = found.cause }) }
 {
-    match found {
-        Some(found) => {
-            let mut inner = found.inner;
-            inner.push(Step {
-                name: name.copy(alloc)?,
-                index: None,
-            })?;
-            Ok(Some(Found {
-                inner,
-                cause: found.cause,
-            }))
-        }
-        None => Ok(None),
+    let mut inner = found.inner;
+    inner.push(Step {
+        name: name.copy(alloc)?,
+        index: None,
+    })?;
+    Ok(Found {
+        inner,
+        cause: found.cause,
+    })
+}
+
+impl From<NoMemory> for Stop {
+    ghost from_gives = { λ _ fault. fault ≡ stop.Memory };
+
+    fn from(_error: NoMemory) -> Stop {
+        Stop::Memory
     }
 }
 
-/// An element that is itself at fault, seen from itself.
-fn itself(alloc: Global, cause: Cause) -> Found
-    ensures inner { result.inner ≡ [] }
-    ensures cause { result.cause ≡ cause }
-{
-    Found {
-        inner: Seq::new(alloc),
-        cause,
-    }
-}
-
-fn first_in_fields(
+/// What an element comes to with all below it, seen from its parent: what is wrong with the element itself goes first.
+fn around(
     alloc: Global,
-    fields: &IndexMap<Sibling, Field>,
-) -> Result<Option<Found>, NoMemory>
-    ensures { IfOk result (λ found. found ≡ first_in (siblings (map field_under fields.now.entries))) }
+    arrays: bool,
+    name: &Name,
+    dim: &Dim,
+    own: Amounts,
+    below: Result<Amounts, Stop>,
+) -> Result<Amounts, Stop>
+    ensures { Rounds arrays name.now dim.now own below result }
 {
+    if let Some(cause) = dim_cause(name, dim) {
+        let inner = Seq::new(alloc);
+        return Err(Stop::Fault(round(alloc, Found { inner, cause }, name)?));
+    }
+    match below {
+        Ok(below) => Ok(own.and(below).times(arrays, name, dim)),
+        Err(Stop::Fault(found)) => Err(Stop::Fault(round(alloc, found, name)?)),
+        Err(Stop::Memory) => Err(Stop::Memory),
+    }
+}
+
+fn field_amounts(alloc: Global, key: &Sibling, element: &Field) -> Result<Amounts, Stop>
+    ensures { SurveysAt (field_under (key.now, element.now)) result }
+{
+    let own = Amounts::own(1, 0, 1);
+    let below = Ok(sets_amounts(element.values.as_slice()));
+    around(alloc, true, &key.name, &element.dim, own, below)
+}
+
+fn fields_amounts(alloc: Global, fields: &IndexMap<Sibling, Field>) -> Result<Amounts, Stop>
+    ensures { Surveys (siblings (map field_under fields.now.entries)) result }
+{
+    let mut total = Amounts::own(0, 0, 0);
     for (key, field) in fields {
-        if let Some(cause) = dim_cause(&key.name, &field.dim) {
-            return round(alloc, Some(itself(alloc, cause)), &key.name);
-        }
+        total = total.and(field_amounts(alloc, key, field)?);
     }
-    Ok(None)
+    Ok(total)
+}
+
+fn register_amounts(alloc: Global, key: &Sibling, element: &Register) -> Result<Amounts, Stop>
+    ensures { SurveysAt (step_of register key.now, register_tree element.now) result }
+{
+    let own = Amounts::own(1, 1, 0);
+    let below = fields_amounts(alloc, &element.fields);
+    around(alloc, true, &key.name, &element.dim, own, below)
 }
 
 #[cycle(walk)]
-fn first_in_items(alloc: Global, items: &[Item]) -> Result<Option<Found>, NoMemory>
-    ensures { IfOk result (λ found. found ≡ first_in (siblings (map item_under items.now))) }
+fn cluster_amounts(alloc: Global, key: &Sibling, element: &Cluster) -> Result<Amounts, Stop>
+    ensures { SurveysAt (step_of cluster key.now, cluster_tree element.now) result }
 {
+    let own = Amounts::own(1, 0, 0);
+    let below = items_amounts(alloc, element.children.as_slice());
+    around(alloc, true, &key.name, &element.dim, own, below)
+}
+
+#[cycle(walk)]
+fn item_amounts(alloc: Global, item: &Item) -> Result<Amounts, Stop>
+    ensures { SurveysAt (item_under item.now) result }
+{
+    match &item.child {
+        Child::Cluster(cluster) => cluster_amounts(alloc, &item.key, cluster),
+        Child::Register(register) => register_amounts(alloc, &item.key, register),
+    }
+}
+
+#[cycle(walk)]
+fn items_amounts(alloc: Global, items: &[Item]) -> Result<Amounts, Stop>
+    ensures { Surveys (siblings (map item_under items.now)) result }
+{
+    let mut total = Amounts::own(0, 0, 0);
     for item in items {
-        let found = first_in_item(alloc, item)?;
-        if let Some(found) = found {
-            return Ok(Some(found));
-        }
+        total = total.and(item_amounts(alloc, item)?);
     }
-    Ok(None)
+    Ok(total)
 }
 
-#[cycle(walk)]
-fn first_in_item(alloc: Global, item: &Item) -> Result<Option<Found>, NoMemory>
-    ensures { IfOk result (λ found. found ≡ first_at (item_under item.now)) }
+fn peripheral_amounts(alloc: Global, key: &Sibling, element: &Peripheral) -> Result<Amounts, Stop>
+    ensures { SurveysAt (peripheral_under (key.now, element.now)) result }
 {
-    let found = first_in_child(alloc, &item.key.name, &item.child)?;
-    round(alloc, found, &item.key.name)
+    let own = Amounts::own(1, 0, 0);
+    let below = items_amounts(alloc, element.children.as_slice());
+    around(alloc, false, &key.name, &element.dim, own, below)
 }
 
-/// The first at a child of that name and below it, seen from the child.
-#[cycle(walk)]
-fn first_in_child(alloc: Global, name: &Name, child: &Child) -> Result<Option<Found>, NoMemory>
-    ensures { IfOk result (λ found. found ≡ first_below (child_tree child.now).0 name.now (child_tree child.now).1) }
-{
-    match child {
-        Child::Cluster(cluster) => first_in_cluster(alloc, name, cluster),
-        Child::Register(register) => first_in_register(alloc, name, register),
-    }
-}
-
-#[cycle(walk)]
-fn first_in_cluster(
-    alloc: Global,
-    name: &Name,
-    element: &Cluster,
-) -> Result<Option<Found>, NoMemory>
-    ensures { IfOk result (λ found. found ≡ first_below cluster name.now (cluster_tree element.now)) }
-{
-    if let Some(cause) = dim_cause(name, &element.dim) {
-        return Ok(Some(itself(alloc, cause)));
-    }
-    first_in_items(alloc, element.children.as_slice())
-}
-
-fn first_in_register(
-    alloc: Global,
-    name: &Name,
-    element: &Register,
-) -> Result<Option<Found>, NoMemory>
-    ensures { IfOk result (λ found. found ≡ first_below register name.now (register_tree element.now)) }
-{
-    if let Some(cause) = dim_cause(name, &element.dim) {
-        return Ok(Some(itself(alloc, cause)));
-    }
-    first_in_fields(alloc, &element.fields)
-}
-
-fn first_in_peripheral(
-    alloc: Global,
-    key: &Sibling,
-    element: &Peripheral,
-) -> Result<Option<Found>, NoMemory>
-    ensures { IfOk result (λ found. found ≡ first_at (peripheral_under (key.now, element.now))) }
-{
-    if let Some(cause) = dim_cause(&key.name, &element.dim) {
-        return round(alloc, Some(itself(alloc, cause)), &key.name);
-    }
-    let found = first_in_items(alloc, element.children.as_slice())?;
-    round(alloc, found, &key.name)
-}
-
-/// The first element of a device whose dimension is at fault, in document order.
-pub fn first_in_peripherals(
+/// What the peripherals of a device and all below them come to; or the first element, in document order, whose dimension
+/// is at fault.
+pub fn peripherals_amounts(
     alloc: Global,
     peripherals: &IndexMap<Sibling, Peripheral>,
-) -> Result<Option<Found>, NoMemory>
-    ensures { IfOk result (λ found. found ≡ first_in (siblings (map peripheral_under peripherals.now.entries))) }
+) -> Result<Amounts, Stop>
+    ensures { Surveys (siblings (map peripheral_under peripherals.now.entries)) result }
 {
+    let mut total = Amounts::own(0, 0, 0);
     for (key, peripheral) in peripherals {
-        let found = first_in_peripheral(alloc, key, peripheral)?;
-        if let Some(found) = found {
-            return Ok(Some(found));
-        }
+        total = total.and(peripheral_amounts(alloc, key, peripheral)?);
     }
-    Ok(None)
+    Ok(total)
 }

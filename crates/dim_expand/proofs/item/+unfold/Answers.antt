@@ -2,7 +2,7 @@
 use Rattle.std.proofs.Common.{◌+◌, map, drop, refl, sym, ap, ◌∙◌, subst, arith}
 use Rattle.dim_expand.specs.Narrow.{AreNarrow, IsNarrow, IsNarrowForest}
 use Rattle.dim_expand.specs.Walks.{capped, group_tree, unfolded}
-use Rattle.dim_expand.proofs.Counting.{items-left, none-left}
+use Rattle.dim_expand.proofs.Surveying.{items-left, none-left}
 use Rattle.dim_expand.proofs.Growing.{item-pushed, pushes_none, pushes_more, items_whole, growing_more, growing_done, narrow_first, narrow_child}
 use Rattle.dim_expand.proofs.Keyed.{cluster-made}
 use Rattle.svd_model.specs.declared.device.Cluster.{out-Cluster}

@@ -2,8 +2,8 @@
 use Rattle.std.proofs.Common.{◌+◌, ◌-◌, ◌^◌, length, ap, arith, zero-add}
 use Rattle.std.specs.List.{sum_by}
 use Rattle.svd_model.specs.Counting.{told_count}
-use Rattle.dim_expand.proofs.Counting.{sum_more, sum_done, told_fits}
-use Rattle.dim_expand.proofs.count.all_values.Goals as goal
+use Rattle.dim_expand.proofs.Surveying.{sum_more, sum_done, told_fits}
+use Rattle.dim_expand.proofs.amounts.all_values.Goals as goal
 
 pub loop-values-init : goal.loop-values-init
 loop-values-init c = record { sum = ap told_count (zero-add _); fits = omega arith }

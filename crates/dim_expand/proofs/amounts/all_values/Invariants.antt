@@ -2,7 +2,7 @@
 use Rattle.std.proofs.Common.{◌≡◌, ◌+◌, ◌-◌, ◌^◌, ◌≤◌, length, drop}
 use Rattle.std.specs.List.{sum_by}
 use Rattle.svd_model.specs.Counting.{told_count}
-use Rattle.dim_expand.proofs.count.all_values.Given as goal
+use Rattle.dim_expand.proofs.amounts.all_values.Given as goal
 
 abbrev pub invariant-loop-values : goal.invariant-loop-values
 invariant-loop-values l = record {
