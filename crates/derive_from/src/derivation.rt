@@ -6,6 +6,7 @@ ghost use Rattle.svd_model.specs.Facts.{IsDerived, IsDescribed};
 ghost use Rattle.svd_model.specs.Trees.{device_rows};
 
 use crate::fault::DeriveFault;
+use crate::sourceless::is_sourceless;
 use crate::telling::told;
 use derive_build::built;
 use derive_order::judged;
@@ -33,17 +34,24 @@ fn derived(alloc: Global, device: &Device) -> Result<Device, DeriveFault>
     }
 }
 
-/// The state in which each element has what it takes from its source. It is handed back, with the first fault, where it
-/// has one: a source that is missing, a circle, paths that are too deep, too many elements. All of these are found
-/// before anything is made. Want of memory is the one other refusal.
+/// The state in which each element has what it takes from its source: the device as it is, where none states one. It is
+/// handed back, with the first fault, where it has one: a source that is missing, a circle, paths that are too deep, too
+/// many elements. All of these are found before anything is made. Want of memory is the one other refusal.
 pub fn derive(alloc: Global, state: Patched) -> Result<Derived, Back<Patched, DeriveFault>>
     ensures rows { IfOk result (λ derived. derived ≡ derived_rows state) }
     ensures faultless { IfOk result (λ derived. IsFaultless state) }
     ensures kept { IfErr result (λ back. back.state ≡ state) }
     ensures fault { IfErr result (λ back. IsRefused state back.fault) }
 {
-    match derived(alloc, state.device()) {
-        Ok(device) => Ok(Derived::new(device)),
-        Err(fault) => Err(Back { state, fault }),
+    let device = state.into_device();
+    if is_sourceless(&device) {
+        return Ok(Derived::new(device));
+    }
+    match derived(alloc, &device) {
+        Ok(made) => Ok(Derived::new(made)),
+        Err(fault) => Err(Back {
+            state: Patched::new(device),
+            fault,
+        }),
     }
 }

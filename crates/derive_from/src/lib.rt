@@ -4,6 +4,7 @@
 mod derivation;
 mod fault;
 mod path;
+mod sourceless;
 mod telling;
 
 pub use derivation::derive;
