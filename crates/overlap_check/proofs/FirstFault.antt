@@ -1,17 +1,17 @@
 -- The first fault as it is told: by each rule, of the clashes, and of all.
-use Rattle.std.proofs.Common.{◌≡◌, List, [], ◌∷◌, ◌++◌, map, reverse, Option, None, Some, option_map, refl, sym, ap, ap₂, ◌∙◌, append_assoc}
-use Rattle.std.proofs.lemmas.List.{map-append, reverse-reverse}
+use Rattle.std.proofs.Common.{◌≡◌, List, [], ◌∷◌, ◌++◌, map, Option, None, Some, option_map, refl, sym, ap, ap₂, ◌∙◌, append_assoc}
+use Rattle.std.proofs.lemmas.List.{map-append}
 use Rattle.overlap_check.specs.declared.fault.CheckFault.{CheckFault}
 use Rattle.overlap_check.specs.declared.fault.CheckFault.TheVariants.{BadWidth, AddressRange, Misaligned, FieldRange, FieldOverlap, RegisterOverlap, NameClash, Memory}
 use Rattle.overlap_check.specs.declared.fault.Policy.{Policy}
 use Rattle.overlap_check.specs.declared.fault.Policy.TheVariants.{Loose, Strict}
-use Rattle.overlap_check.specs.declared.rule.Rule.{Rule}
-use Rattle.overlap_check.specs.declared.rule.Rule.TheVariants.{Width, Range, Alignment, Fields}
-use Rattle.overlap_check.specs.Ruled.{faults_of, fault_of, fault_at, broken_in, clashing_in, fault_in, first_fault_of, overlap_in, place_fault_in}
+use Rattle.overlap_check.specs.declared.found.Found.{Found}
+use Rattle.overlap_check.specs.Found.{found_in}
+use Rattle.overlap_check.specs.Ruled.{faults_of, fault_of, fault_at, broken_in, clashing_in, fault_in, first_fault_of, first_kind, overlap_in, place_fault_in, told_clash}
 use Rattle.overlap_check.specs.Told.{faults, name_faults, overlaps, place_faults, told_path, told_fault, told_shared, first_of, IsFirst}
-use Rattle.overlap_check.specs.Walks.{or_else}
-use Rattle.overlap_check.proofs.Pairs.{upward_pair, first-append, first-clash}
-use Rattle.overlap_check.proofs.Rules.{upward, first-found}
+use Rattle.overlap_check.specs.Walks.{Rule, Width, Range, Alignment, Fields, device_place, or_else}
+use Rattle.overlap_check.proofs.Pairs.{told_pair, first-append, first-clash}
+use Rattle.overlap_check.proofs.Rules.{first-found}
 use Rattle.overlap_sweep.specs.declared.overlap.Overlap.{Overlap}
 use Rattle.overlap_sweep.specs.declared.overlap.Shared.{Shared}
 use Rattle.overlap_sweep.specs.declared.overlap.Shared.TheVariants.{Fields as OfFields, Registers}
@@ -40,17 +40,17 @@ told-by rule (path ∷ paths) = by rule
     by Alignment = refl
     by Fields = refl
 
--- the path that walking finds, from its other end, is that of the first element which breaks the rule
+-- the path that walking finds is that of the first element which breaks the rule
 broken-first : (rule : Rule) (device : Device) → IsUnfolded device → broken_in rule device ≡ first_of (map told_fault (map (fault_of rule) (faults_of rule (device_rows device))))
 unfolding broken_in
 broken-first rule device unfolded =
-    sym (ap (option_map (λ inner. fault_at rule (reverse inner))) (first-found rule device unfolded))
+    sym (ap (option_map (fault_at rule)) (first-found rule device unfolded))
     ∙ by (first_of (faults_of rule (device_rows device)))
     ∙ sym (told-by rule (faults_of rule (device_rows device)))
   where
-    by : (o : Option (List Step)) → option_map (λ inner. fault_at rule (reverse inner)) (option_map upward o) ≡ option_map (λ path. fault_at rule (told_path path)) o
+    by : (o : Option (List Step)) → option_map (fault_at rule) (option_map told_path o) ≡ option_map (λ path. fault_at rule (told_path path)) o
     by None = refl
-    by (Some path) = ap (λ r. Some (fault_at rule r)) (reverse-reverse (told_path path))
+    by (Some path) = refl
 
 -- ---- clashes
 
@@ -61,13 +61,13 @@ told-clash (pair ∷ pairs) = refl
 clash-first : (device : Device) → IsUnfolded device → clashing_in device ≡ first_of (map told_fault (map (λ pair. name_clash pair.0 pair.1) (clashes (device_rows device))))
 unfolding clashing_in
 clash-first device unfolded =
-    sym (ap (option_map (λ clash. NameClash (reverse clash.first) (reverse clash.second))) (first-clash (device_tree device) (IsDistinct-finer same_key same_step same_step-finer (device_tree device).below unfolded.distinct)))
+    sym (ap (option_map told_clash) (first-clash (device_tree device) (IsDistinct-finer same_key same_step same_step-finer (device_tree device).below unfolded.distinct)))
     ∙ by (first_of (clashes (device_rows device)))
     ∙ sym (told-clash (clashes (device_rows device)))
   where
-    by : (o : Option (List Step × List Step)) → option_map (λ clash. NameClash (reverse clash.first) (reverse clash.second)) (option_map upward_pair o) ≡ option_map (λ pair. NameClash (told_path pair.0) (told_path pair.1)) o
+    by : (o : Option (List Step × List Step)) → option_map told_clash (option_map told_pair o) ≡ option_map (λ pair. NameClash (told_path pair.0) (told_path pair.1)) o
     by None = refl
-    by (Some pair) = ap₂ (λ a b. Some (NameClash a b)) (reverse-reverse (told_path pair.0)) (reverse-reverse (told_path pair.1))
+    by (Some pair) = refl
 
 -- ---- all
 
@@ -198,6 +198,16 @@ placed device unfolded none =
     by None None (Some x) d none = absurd cc
     by None (Some x) c d none = absurd cc
     by (Some x) b c d none = absurd cc
+
+-- what walking finds, kind by kind
+module _ (device : Device) (found : Found) (is : found ≡ found_in (device_place device.props.size) [] (device_tree device).below) where
+  pub places-found : (place : Option CheckFault) → place ≡ first_kind found.width found.range found.alignment found.fields → place_fault_in device ≡ place
+  unfolding place_fault_in broken_in
+  places-found place kinds = sym (kinds ∙ ap (λ (f : Found). first_kind f.width f.range f.alignment f.fields) is)
+
+  pub clash-found : (clash : Option CheckFault) → clash ≡ option_map told_clash found.clash → clashing_in device ≡ clash
+  unfolding clashing_in
+  clash-found clash told = sym (told ∙ ap (λ (f : Found). option_map told_clash f.clash) is)
 
 -- the first fault is told
 pub is-first : (policy : Policy) (all : List (Row Step Key)) (fault : CheckFault) → Some fault ≡ first_fault_of policy all → IsFirst (faults policy all) fault

@@ -1,4 +1,3 @@
-pub mod Clashing
 pub mod Elements
 pub mod FirstFault
 pub mod Firsts

@@ -9,12 +9,11 @@ use Rattle.std.proofs.lemmas.Bool.Decides.{same_from_decides}
 use Rattle.std.proofs.lemmas.List.{reverse-append, map-append}
 use Rattle.std.proofs.lemmas.List.Elements.{filter-append}
 use Rattle.std.proofs.Math.Bool.{and_assoc}
-use Rattle.overlap_check.specs.declared.clash.Clash.{Clash}
+use Rattle.overlap_check.specs.declared.found.Clash.{Clash}
 use Rattle.overlap_check.specs.Meetings.{met, under_name, alone, clash_named, first_clash, earlier, seen_too}
-use Rattle.overlap_check.specs.Told.{first_of}
+use Rattle.overlap_check.specs.Told.{first_of, told_path}
 use Rattle.overlap_check.specs.Walks.{or_else}
 use Rattle.overlap_check.proofs.Elements.{paths-node, paths-tree}
-use Rattle.overlap_check.proofs.Rules.{upward, upward-below}
 use Rattle.svd_model.specs.Checking.{is_named, is_clash, pairs_behind, clashes}
 use Rattle.svd_model.specs.Keys.{Key}
 use Rattle.svd_model.specs.Stating.{paths_of}
@@ -166,9 +165,9 @@ clash pair = front pair.0 pair.1
 abbrev both : Step → List Step × List Step → List Step × List Step
 both s pair = (s ∷ pair.0, s ∷ pair.1)
 
--- the pair as it is told, from the innermost steps outward
-abbrev pub upward_pair : List Step × List Step → Clash
-upward_pair pair = record { first = upward pair.0; second = upward pair.1 }
+-- the pair as it is told
+abbrev pub told_pair : List Step × List Step → Clash
+told_pair pair = record { first = told_path pair.0; second = told_path pair.1 }
 
 pub first-append : {A : Type 0} (xs ys : List A) → first_of (xs ++ ys) ≡ or_else (first_of xs) (first_of ys)
 first-append [] ys = refl
@@ -243,7 +242,7 @@ turned-names : (one other : List ℕ) → bytes_eq (accessor_name other) (access
 unfolding same_name
 turned-names one other = turned-bytes (accessor_name other) (accessor_name one)
 
-here : (s : Step) (before : List (List Step)) → option_map upward_pair (first_of (filter clash (map (λ b. (b, s ∷ [])) before))) ≡ option_map (λ first. alone first s.name) (earlier s (kept before))
+here : (s : Step) (before : List (List Step)) → option_map told_pair (first_of (filter clash (map (λ b. (b, s ∷ [])) before))) ≡ option_map (λ first. alone first s.name) (earlier s (kept before))
 unfolding kept met
 here s [] = by (is_named s.kind)
   where
@@ -256,7 +255,7 @@ here s ((a ∷ []) ∷ before) = by (is_named a.kind) (is_named s.kind) (same_na
     found : List (List Step × List Step)
     found = filter clash (map (λ b. (b, s ∷ [])) before)
 
-    by : (x y z : Bool) → bytes_eq (accessor_name s.name) (accessor_name a.name) ≡ z → option_map upward_pair (first_of found) ≡ option_map (λ first. alone first s.name) (cond y (under_name (accessor_name s.name) (kept before)) None) → option_map upward_pair (first_of (cond (x && y && z) ((a ∷ [], s ∷ []) ∷ found) found)) ≡ option_map (λ first. alone first s.name) (cond y (under_name (accessor_name s.name) (cond x ((accessor_name a.name, a.name) ∷ kept before) (kept before))) None)
+    by : (x y z : Bool) → bytes_eq (accessor_name s.name) (accessor_name a.name) ≡ z → option_map told_pair (first_of found) ≡ option_map (λ first. alone first s.name) (cond y (under_name (accessor_name s.name) (kept before)) None) → option_map told_pair (first_of (cond (x && y && z) ((a ∷ [], s ∷ []) ∷ found) found)) ≡ option_map (λ first. alone first s.name) (cond y (under_name (accessor_name s.name) (cond x ((accessor_name a.name, a.name) ∷ kept before) (kept before))) None)
     by false y z e rest = rest
     by true false z e rest = rest
     by true true true e rest = sym (ap (λ b. option_map (λ first. alone first s.name) (cond b (Some a.name) (under_name (accessor_name s.name) (kept before)))) e)
@@ -305,9 +304,9 @@ deeper s (x ∷ xs) before inner far long all =
     (deeper s xs before (inner ++ x ∷ []) far (long-append inner (x ∷ []) long (all.0, tt)) all.1)
     ∙ sym (ap (map (both s)) (filter-append clash (map (λ first. (first, x)) inner) (pairs_behind (inner ++ x ∷ []) xs)) ∙ map-append (both s) (filter clash (map (λ first. (first, x)) inner)) (filter clash (pairs_behind (inner ++ x ∷ []) xs)))
 
-named-below : (s : Step) (found : List (List Step × List Step)) → option_map upward_pair (first_of (map (both s) found)) ≡ clash_named s.name (option_map upward_pair (first_of found))
+named-below : (s : Step) (found : List (List Step × List Step)) → option_map told_pair (first_of (map (both s) found)) ≡ clash_named s.name (option_map told_pair (first_of found))
 named-below s [] = refl
-named-below s (pair ∷ found) = λ i. Some (record { first = upward-below s pair.0 i; second = upward-below s pair.1 i })
+named-below s (pair ∷ found) = refl
 
 -- ---- all elements
 
@@ -357,24 +356,24 @@ kept-more s before inner long =
     by false = append-nil (kept before)
 
 -- the first clash of elements with those before them
-searched : (f : Forest Step Key) (before : List (List Step)) → AllByRecursion (IsClear before) (steps f) → IsDistinct same_step f → option_map upward_pair (first_of (filter clash (pairs_behind before (paths_of (forest_rows f))))) ≡ first_clash (kept before) f
+searched : (f : Forest Step Key) (before : List (List Step)) → AllByRecursion (IsClear before) (steps f) → IsDistinct same_step f → option_map told_pair (first_of (filter clash (pairs_behind before (paths_of (forest_rows f))))) ≡ first_clash (kept before) f
 unfolding steps IsDistinct first_clash pairs_behind forest_rows paths_of kept
 searched leaf before clear distinct = refl
 searched (node s keys c n) before clear distinct =
-    ap (λ paths. option_map upward_pair (first_of (filter clash (pairs_behind before paths)))) (paths-node s keys c n)
-    ∙ ap (λ pairs. option_map upward_pair (first_of (filter clash (map (λ b. (b, s ∷ [])) before ++ pairs)))) (pairs-append (before ++ (s ∷ []) ∷ []) (map (λ path. s ∷ path) inner) (paths_of (forest_rows n)))
-    ∙ ap (λ found. option_map upward_pair (first_of found))
+    ap (λ paths. option_map told_pair (first_of (filter clash (pairs_behind before paths)))) (paths-node s keys c n)
+    ∙ ap (λ pairs. option_map told_pair (first_of (filter clash (map (λ b. (b, s ∷ [])) before ++ pairs)))) (pairs-append (before ++ (s ∷ []) ∷ []) (map (λ path. s ∷ path) inner) (paths_of (forest_rows n)))
+    ∙ ap (λ found. option_map told_pair (first_of found))
     (filter-append clash (map (λ b. (b, s ∷ [])) before) (pairs_behind (before ++ (s ∷ []) ∷ []) (map (λ path. s ∷ path) inner) ++ later (before ++ (s ∷ []) ∷ [] ++ map (λ path. s ∷ path) inner))
     ∙ ap (λ r. filter clash (map (λ b. (b, s ∷ [])) before) ++ r) (filter-append clash (pairs_behind (before ++ (s ∷ []) ∷ []) (map (λ path. s ∷ path) inner)) (later (before ++ (s ∷ []) ∷ [] ++ map (λ path. s ∷ path) inner))))
     ∙ split (filter clash (map (λ b. (b, s ∷ [])) before)) (filter clash (pairs_behind (before ++ (s ∷ []) ∷ []) (map (λ path. s ∷ path) inner))) (filter clash (later (before ++ (s ∷ []) ∷ [] ++ map (λ path. s ∷ path) inner)))
     ∙ three
     (here s before)
-    (ap (λ found. option_map upward_pair (first_of found))
+    (ap (λ found. option_map told_pair (first_of found))
     (ap (λ b. filter clash (pairs_behind b (map (λ path. s ∷ path) inner))) (sym (append-nil (before ++ (s ∷ []) ∷ [])))
     ∙ deeper s inner (before ++ (s ∷ []) ∷ []) [] (clear-far s before clear.0) tt (long-paths c))
     ∙ named-below s (filter clash (pairs_behind [] inner))
     ∙ ap (clash_named s.name) (searched c [] (clear-none (steps c)) distinct.1))
-    (ap (λ b. option_map upward_pair (first_of (filter clash (later b)))) (append_assoc before ((s ∷ []) ∷ []) (map (λ path. s ∷ path) inner))
+    (ap (λ b. option_map told_pair (first_of (filter clash (later b)))) (append_assoc before ((s ∷ []) ∷ []) (map (λ path. s ∷ path) inner))
     ∙ searched n (before ++ (s ∷ []) ∷ map (λ path. s ∷ path) inner) (clear-more s before inner (steps n) clear.1 distinct.0) distinct.2
     ∙ ap (λ k. first_clash k n) (kept-more s before inner (long-paths c)))
   where
@@ -384,11 +383,11 @@ searched (node s keys c n) before clear distinct =
     later : List (List Step) → List (List Step × List Step)
     later b = pairs_behind b (paths_of (forest_rows n))
 
-    split : (xs ys zs : List (List Step × List Step)) → option_map upward_pair (first_of (xs ++ (ys ++ zs))) ≡ or_else (option_map upward_pair (first_of xs)) (or_else (option_map upward_pair (first_of ys)) (option_map upward_pair (first_of zs)))
+    split : (xs ys zs : List (List Step × List Step)) → option_map told_pair (first_of (xs ++ (ys ++ zs))) ≡ or_else (option_map told_pair (first_of xs)) (or_else (option_map told_pair (first_of ys)) (option_map told_pair (first_of zs)))
     split xs ys zs =
-        ap (option_map upward_pair) (first-append xs (ys ++ zs))
-        ∙ map-or upward_pair (first_of xs) (first_of (ys ++ zs))
-        ∙ ap (or_else (option_map upward_pair (first_of xs))) (ap (option_map upward_pair) (first-append ys zs) ∙ map-or upward_pair (first_of ys) (first_of zs))
+        ap (option_map told_pair) (first-append xs (ys ++ zs))
+        ∙ map-or told_pair (first_of xs) (first_of (ys ++ zs))
+        ∙ ap (or_else (option_map told_pair (first_of xs))) (ap (option_map told_pair) (first-append ys zs) ∙ map-or told_pair (first_of ys) (first_of zs))
 
     three : {a b c' x y z : Option Clash} → a ≡ x → b ≡ y → c' ≡ z → or_else a (or_else b c') ≡ or_else x (or_else y z)
     three e f g = λ i. or_else (e i) (or_else (f i) (g i))
@@ -405,10 +404,10 @@ device-clear [] = tt
 device-clear (t ∷ ts) = ((refl, tt), device-clear ts)
 
 -- the first clash over the flat rows, and by the search
-pub first-clash : (tree : Tree Step Key) → IsDistinct same_step tree.below → option_map upward_pair (first_of (clashes (rows tree))) ≡ first_clash [] tree.below
+pub first-clash : (tree : Tree Step Key) → IsDistinct same_step tree.below → option_map told_pair (first_of (clashes (rows tree))) ≡ first_clash [] tree.below
 unfolding clashes pairs_behind kept
 first-clash tree distinct =
-    ap (λ found. option_map upward_pair (first_of found))
+    ap (λ found. option_map told_pair (first_of found))
     (filter-agree (λ pair. is_clash pair.0 pair.1) clash (λ pair. is_clash-front pair.0 pair.1) (pairs_behind [] (paths_of (rows tree)))
     ∙ ap (λ paths. filter clash (pairs_behind [] paths)) (paths-tree tree))
     ∙ searched tree.below ([] ∷ []) (device-clear (steps tree.below)) distinct

@@ -7,7 +7,7 @@ use Rattle.std.proofs.lemmas.List.{reverse-append}
 use Rattle.std.proofs.lemmas.List.Folds.{list_all-append}
 use Rattle.std.proofs.Math.Nat.{add-mod, mod-mod}
 use Rattle.overlap_check.specs.declared.place.Place.{Place}
-use Rattle.overlap_check.specs.Walks.{entered, entered_by, stride_of, narrowed, top, register_past, is_uneven}
+use Rattle.overlap_check.specs.Walks.{entered, entered_by, stride_of, narrowed, top, Range, Alignment, fails_register}
 use Rattle.overlap_check.proofs.Members.{firsts, greatest, base_start, step_at, others_at, IsSome, is_step_even, any-agree, past-members, uneven-members}
 use Rattle.pac_base.specs.declared.width.Width.{Width}
 use Rattle.pac_base.specs.declared.width.Width.TheVariants.{W8, W16, W32, W64}
@@ -134,7 +134,7 @@ pub group-past : (down : List (List Key)) (place : Place) → AllByRecursion IsS
 group-past down place some tells =
     from_nothing 1 down some ∙ start-bounded (2 ^ 64) top (greatest down) limits ∙ ap (nat_le (2 ^ 64)) (sym tells.last)
 
-pub register-past : (down : List (List Key)) (place : Place) → AllByRecursion IsSome down → Tells down place → some_past (bytes_of (width_of (size_down down))) down ≡ register_past place
+pub register-past : (down : List (List Key)) (place : Place) → AllByRecursion IsSome down → Tells down place → some_past (bytes_of (width_of (size_down down))) down ≡ fails_register Range place
 register-past down place some tells =
     from_nothing (bytes_of (width_of (size_down down))) down some
     ∙ past-bounded (2 ^ 64) top (greatest down) (bytes_of (width_of (size_down down))) limits
@@ -152,7 +152,7 @@ uneven-tests x b s t e = ap (λ u. not (nat_eq x 0 && u)) (sym e) ∙ both
     both : not (nat_eq x 0 && nat_le b s) ≡ (not (nat_eq x 0) || nat_lt s b)
     both = grind (arith, nat_tests)
 
-pub register-uneven : (down : List (List Key)) (place : Place) → AllByRecursion IsSome down → Tells down place → some_uneven (bytes_of (width_of (size_down down))) down ≡ is_uneven place
+pub register-uneven : (down : List (List Key)) (place : Place) → AllByRecursion IsSome down → Tells down place → some_uneven (bytes_of (width_of (size_down down))) down ≡ fails_register Alignment place
 unfolding some_uneven
 register-uneven down place some tells =
     any-agree _ _ (λ member. ap (λ n. not (nat_eq (n % bytes) 0)) (zeros (address_of down member))) (members_of down)

@@ -7,11 +7,9 @@ use Rattle.std.proofs.Math.Nat.{mul-le-mul_right}
 use Rattle.std.proofs.lemmas.List.{reverse-append}
 use Rattle.std.proofs.lemmas.List.Elements.{filter-append}
 use Rattle.overlap_check.specs.declared.place.Place.{Place}
-use Rattle.overlap_check.specs.declared.rule.Rule.{Rule}
-use Rattle.overlap_check.specs.declared.rule.Rule.TheVariants.{Width, Range, Alignment, Fields}
 use Rattle.overlap_check.specs.Ruled.{faults_of}
 use Rattle.overlap_check.specs.Told.{told, told_path, first_of}
-use Rattle.overlap_check.specs.Walks.{entered, fails, bits_at, is_within, device_place, first_in, named, or_else, top}
+use Rattle.overlap_check.specs.Walks.{Rule, Width, Range, Alignment, Fields, entered, fails, fails_register, bits_at, is_within, device_place, first_in, named, or_else, top}
 use Rattle.overlap_check.proofs.Elements.{paths-node, paths-tree, AreFound, are-found, element_at-behind, keys_at-element, keys_down-behind, ends_with-behind}
 use Rattle.overlap_check.proofs.Members.{IsSome, firsts, greatest, indexes-down, step_at}
 use Rattle.overlap_check.proofs.Places.{Tells, Tells-entered, group-past, register-past, register-uneven}
@@ -139,7 +137,7 @@ broken-element Alignment all path s keys down place is_down is_keys some own tel
     ∙ ap (λ b. is_of register s && b) (register-uneven down place some tells)
     ∙ by s.kind
   where
-    by : (kind : Kind) → (Rattle.svd_model.specs.Steps.same_kind register kind && Rattle.overlap_check.specs.Walks.is_uneven place) ≡ fails Alignment kind place keys
+    by : (kind : Kind) → (Rattle.svd_model.specs.Steps.same_kind register kind && fails_register Alignment place) ≡ fails Alignment kind place keys
     by peripheral = refl
     by cluster = refl
     by register = refl
@@ -168,27 +166,20 @@ Agrees test rule outer leaf = ⊤
 Agrees test rule outer (node s keys c n) =
     (test (s ∷ []) ≡ fails rule s.kind (entered keys outer) keys) × Agrees (λ path. test (s ∷ path)) rule (entered keys outer) c × Agrees test rule outer n
 
--- a path from the innermost step outward
-abbrev pub upward : List Step → List Written
-upward path = reverse (told_path path)
-
-pub upward-below : (s : Step) (path : List Step) → upward (s ∷ path) ≡ upward path ++ told s ∷ []
-upward-below s path = reverse-append (told s ∷ []) (told_path path)
-
-joined : (s : Step) (below others : List (List Step)) → option_map upward (first_of (map (λ path. s ∷ path) below ++ others)) ≡ or_else (named s.name (option_map upward (first_of below))) (option_map upward (first_of others))
+joined : (s : Step) (below others : List (List Step)) → option_map told_path (first_of (map (λ path. s ∷ path) below ++ others)) ≡ or_else (named s.name (option_map told_path (first_of below))) (option_map told_path (first_of others))
 joined s [] others = refl
-joined s (path ∷ below) others = ap Some (upward-below s path)
+joined s (path ∷ below) others = refl
 
 -- the first that is found by its path is the first that walking finds
-walked : (test : List Step → Bool) (rule : Rule) (outer : Place) (f : Forest Step Key) → Agrees test rule outer f → option_map upward (first_of (filter test (paths_of (forest_rows f)))) ≡ first_in rule outer f
+walked : (test : List Step → Bool) (rule : Rule) (outer : Place) (f : Forest Step Key) → Agrees test rule outer f → option_map told_path (first_of (filter test (paths_of (forest_rows f)))) ≡ first_in rule outer f
 unfolding Agrees first_in forest_rows paths_of
 walked test rule outer leaf agrees = refl
 walked test rule outer (node s keys c n) agrees =
-    ap (λ paths. option_map upward (first_of (filter test paths))) (paths-node s keys c n)
-    ∙ ap (λ r. option_map upward (first_of (cond (test (s ∷ [])) ((s ∷ []) ∷ r) r)))
+    ap (λ paths. option_map told_path (first_of (filter test paths))) (paths-node s keys c n)
+    ∙ ap (λ r. option_map told_path (first_of (cond (test (s ∷ [])) ((s ∷ []) ∷ r) r)))
     (filter-append test (map (λ path. s ∷ path) (paths_of (forest_rows c))) (paths_of (forest_rows n))
     ∙ ap (λ r. r ++ others) (filter-map test (λ path. s ∷ path) (paths_of (forest_rows c))))
-    ∙ ap (λ b. option_map upward (first_of (cond b ((s ∷ []) ∷ (map (λ path. s ∷ path) below ++ others)) (map (λ path. s ∷ path) below ++ others)))) agrees.0
+    ∙ ap (λ b. option_map told_path (first_of (cond b ((s ∷ []) ∷ (map (λ path. s ∷ path) below ++ others)) (map (λ path. s ∷ path) below ++ others)))) agrees.0
     ∙ by (fails rule s.kind (entered keys outer) keys) (walked (λ path. test (s ∷ path)) rule (entered keys outer) c agrees.1) (walked test rule outer n agrees.2)
   where
     below : List (List Step)
@@ -197,7 +188,7 @@ walked test rule outer (node s keys c n) agrees =
     others : List (List Step)
     others = filter test (paths_of (forest_rows n))
 
-    by : (b : Bool) → option_map upward (first_of below) ≡ first_in rule (entered keys outer) c → option_map upward (first_of others) ≡ first_in rule outer n → option_map upward (first_of (cond b ((s ∷ []) ∷ (map (λ path. s ∷ path) below ++ others)) (map (λ path. s ∷ path) below ++ others))) ≡ or_else (named s.name (cond b (Some []) (first_in rule (entered keys outer) c))) (first_in rule outer n)
+    by : (b : Bool) → option_map told_path (first_of below) ≡ first_in rule (entered keys outer) c → option_map told_path (first_of others) ≡ first_in rule outer n → option_map told_path (first_of (cond b ((s ∷ []) ∷ (map (λ path. s ∷ path) below ++ others)) (map (λ path. s ∷ path) below ++ others))) ≡ or_else (named s.name (cond b (Some []) (first_in rule (entered keys outer) c))) (first_in rule outer n)
     by true inner later = refl
     by false inner later = joined s below others ∙ ap₂ (λ x y. or_else (named s.name x) y) inner later
 
@@ -274,10 +265,10 @@ none-at-device Alignment all = refl
 none-at-device Fields all = refl
 
 -- the first element that breaks a rule, over the flat rows and by walking
-pub first-found : (rule : Rule) (device : Device) → IsUnfoldedTree (device_tree device) → option_map upward (first_of (faults_of rule (device_rows device))) ≡ first_in rule (device_place device.props.size) (device_tree device).below
+pub first-found : (rule : Rule) (device : Device) → IsUnfoldedTree (device_tree device) → option_map told_path (first_of (faults_of rule (device_rows device))) ≡ first_in rule (device_place device.props.size) (device_tree device).below
 unfolding keys_down ways_down element_at
 first-found rule device unfolded =
-    ap (λ paths. option_map upward (first_of paths)) (faults-broken rule (device_rows device) ∙ ap (filter (broken rule (device_rows device))) (paths-tree (device_tree device)) ∙ ap (λ b. cond b ([] ∷ rest) rest) (none-at-device rule (device_rows device)))
+    ap (λ paths. option_map told_path (first_of paths)) (faults-broken rule (device_rows device) ∙ ap (filter (broken rule (device_rows device))) (paths-tree (device_tree device)) ∙ ap (λ b. cond b ([] ∷ rest) rest) (none-at-device rule (device_rows device)))
     ∙ walked (broken rule (device_rows device)) rule (device_place device.props.size) (device_tree device).below
     (agrees-below rule tree distinct [] tree tree.below (tree.keys ∷ []) (device_place device.props.size) refl (are-found tree.below distinct) distinct unfolded.elements (ap (λ k. k ∷ []) (keys_at-element tree tree [] distinct refl)) (device-some device, tt) (device-tells device))
   where

@@ -2,7 +2,7 @@
 -- flat rows is proved.
 use Rattle.std.specs.Prelude.{ℕ, cond, List, [], ◌∷◌, ◌++◌, Option, None, Some, option_map}
 use Rattle.std.specs.Str.{bytes_eq}
-use Rattle.overlap_check.specs.declared.clash.Clash.{Clash}
+use Rattle.overlap_check.specs.declared.found.Clash.{Clash}
 use Rattle.overlap_check.specs.Walks.{told_name, or_else}
 use Rattle.svd_model.specs.Checking.{is_named}
 use Rattle.svd_model.specs.Keys.{Key}
@@ -24,11 +24,15 @@ abbrev pub alone : List ℕ → List ℕ → Clash
 alone first second = record { first = told_name first ∷ []; second = told_name second ∷ [] }
 
 abbrev pub round_clash : List ℕ → Clash → Clash
-round_clash name clash = record { first = clash.first ++ told_name name ∷ []; second = clash.second ++ told_name name ∷ [] }
+round_clash name clash = record { first = told_name name ∷ clash.first; second = told_name name ∷ clash.second }
 
 -- a clash below the element of this name
 abbrev pub clash_named : List ℕ → Option Clash → Option Clash
 clash_named name found = option_map (round_clash name) found
+
+-- the clash of a sibling of this name with the first of those before it that has its accessor name
+abbrev pub clash_here : List ℕ → List (List ℕ × List ℕ) → Option Clash
+clash_here name seen = option_map (λ first. alone first name) (met name seen)
 
 -- the earlier sibling that this one clashes with: elements without an accessor clash with none
 abbrev pub earlier : Step → List (List ℕ × List ℕ) → Option (List ℕ)

@@ -1,16 +1,15 @@
 -- The elements of the flat rows that break a rule, and the fault that this is.
-use Rattle.std.specs.Prelude.{List, [], Option, None, option_map, reverse}
+use Rattle.std.specs.Prelude.{List, [], Option, None, option_map}
 use Rattle.overlap_check.specs.declared.fault.CheckFault.{CheckFault}
 use Rattle.overlap_check.specs.declared.fault.CheckFault.TheVariants.{BadWidth, AddressRange, Misaligned, FieldRange, NameClash}
 use Rattle.overlap_check.specs.declared.fault.Policy.{Policy}
 use Rattle.overlap_check.specs.declared.fault.Policy.TheVariants.{Loose, Strict}
-use Rattle.overlap_check.specs.declared.rule.Rule.{Rule}
+use Rattle.overlap_check.specs.declared.found.Clash.{Clash}
 use Rattle.overlap_sweep.specs.Overlaps.{first_shared}
 use Rattle.pac_base.specs.declared.path.Step.{Step as Written}
-use Rattle.overlap_check.specs.declared.rule.Rule.TheVariants.{Width, Range, Alignment, Fields}
 use Rattle.overlap_check.specs.Told.{faults, first_of, told_shared}
 use Rattle.overlap_check.specs.Meetings.{first_clash}
-use Rattle.overlap_check.specs.Walks.{device_place, first_in, or_else}
+use Rattle.overlap_check.specs.Walks.{Rule, Width, Range, Alignment, Fields, device_place, first_in, or_else}
 use Rattle.svd_model.specs.declared.device.Device.{Device}
 use Rattle.svd_model.specs.Checking.{Fault, bad_width, address_range, misaligned, field_range, bad_widths, past_ranges, uneven, fields_past}
 use Rattle.svd_model.specs.Keys.{Key}
@@ -45,15 +44,23 @@ fault_at Range path = AddressRange path
 fault_at Alignment path = Misaligned path
 fault_at Fields path = FieldRange path
 
+-- the first of the kinds before overlaps of which one was found
+abbrev pub first_kind : Option (List Written) → Option (List Written) → Option (List Written) → Option (List Written) → Option CheckFault
+first_kind width range alignment fields =
+    or_else (option_map (fault_at Width) width) (or_else (option_map (fault_at Range) range) (or_else (option_map (fault_at Alignment) alignment) (option_map (fault_at Fields) fields)))
+
 -- the first element of the device that breaks the rule
 unfoldable pub broken_in : Rule → Device → Option CheckFault
 broken_in rule device =
-    option_map (λ inner. fault_at rule (reverse inner)) (first_in rule (device_place device.props.size) (device_tree device).below)
+    option_map (fault_at rule) (first_in rule (device_place device.props.size) (device_tree device).below)
+
+abbrev pub told_clash : Clash → CheckFault
+told_clash clash = NameClash clash.first clash.second
 
 -- the first two siblings of the device that have one accessor name
 unfoldable pub clashing_in : Device → Option CheckFault
 clashing_in device =
-    option_map (λ clash. NameClash (reverse clash.first) (reverse clash.second)) (first_clash [] (device_tree device).below)
+    option_map told_clash (first_clash [] (device_tree device).below)
 
 -- the kinds before overlaps, one after the other
 unfoldable pub place_fault_in : Device → Option CheckFault

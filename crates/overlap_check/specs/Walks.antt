@@ -1,12 +1,10 @@
 -- What the functions of this crate give, on the pure tree: an element is found where it breaks a rule by the place
 -- at which it stands, which is told by the elements round it. That these are the faults of the flat rows is proved.
-use Rattle.std.specs.Prelude.{ℕ, ◌+◌, ◌-◌, ◌*◌, ◌%◌, ◌^◌, min, Bool, false, ◌&&◌, ◌||◌, not, nat_le, nat_lt, nat_eq, cond, if◌then◌else◌, List, [], ◌∷◌, ◌++◌, Option, None, Some, option_map, unwrap_or}
+use Rattle.std.specs.Prelude.{ℕ, ◌+◌, ◌-◌, ◌*◌, ◌%◌, ◌^◌, min, Bool, false, ◌&&◌, ◌||◌, not, nat_le, nat_lt, nat_eq, cond, if◌then◌else◌, List, [], ◌∷◌, Option, None, Some, option_map, unwrap_or}
 use Rattle.pac_base.specs.Widths.{bits_of}
 use Rattle.pac_base.specs.declared.path.Step.{Step as Written}
 use Rattle.pac_base.specs.declared.width.Width.{Width as WidthOf}
 use Rattle.overlap_check.specs.declared.place.Place.{Place}
-use Rattle.overlap_check.specs.declared.rule.Rule.{Rule}
-use Rattle.overlap_check.specs.declared.rule.Rule.TheVariants.{Width, Range, Alignment, Fields}
 use Rattle.svd_model.specs.Checking as checking
 use Rattle.svd_model.specs.Keys.{Key}
 use Rattle.svd_model.specs.Stating.{value_of, stated_dim, stated_increment, stated_base, stated_offset, stated_size, stated_width}
@@ -49,20 +47,22 @@ entered keys outer =
 
 -- ---- rules
 
+-- What elements have to keep: a register has 1 to 64 bits; addresses have 64 bits; the address of a register is a
+-- multiple of its width; each member of a field lies within its register.
+pub data Rule : Type 0 where
+  Width : Rule
+  Range : Rule
+  Alignment : Rule
+  Fields : Rule
+
 abbrev pub fails_group : Rule → Place → Bool
 fails_group Range place = nat_le (2 ^ 64) place.last
 fails_group _ place = false
 
-abbrev pub register_past : Place → Bool
-register_past place = nat_lt (2 ^ 64) (min (place.last + checking.bytes_of (width_of place.size)) top)
-
-abbrev pub is_uneven : Place → Bool
-is_uneven place = not (nat_eq (place.first % checking.bytes_of (width_of place.size)) 0) || nat_lt place.stride (checking.bytes_of (width_of place.size))
-
 abbrev pub fails_register : Rule → Place → Bool
 fails_register Width place = not (checking.is_size place.size)
-fails_register Range place = register_past place
-fails_register Alignment place = is_uneven place
+fails_register Range place = nat_lt (2 ^ 64) (min (place.last + checking.bytes_of (width_of place.size)) top)
+fails_register Alignment place = not (nat_eq (place.first % checking.bytes_of (width_of place.size)) 0) || nat_lt place.stride (checking.bytes_of (width_of place.size))
 fails_register Fields place = false
 
 -- where the last member of a field ends that stands so often, each this many bits behind the one before, or the greatest
@@ -98,16 +98,15 @@ fails rule value place keys = false
 abbrev pub told_name : List ℕ → Written
 told_name name = record { name = name; index = None }
 
--- a path, from the innermost step outward, with a step of this name round it
+-- a path with a step of this name in front of it
 abbrev pub named : List ℕ → Option (List Written) → Option (List Written)
-named name found = option_map (λ inner. inner ++ told_name name ∷ []) found
+named name found = option_map (λ inner. told_name name ∷ inner) found
 
 abbrev pub or_else : {A : Type 0} → Option A → Option A → Option A
 or_else None other = other
 or_else (Some x) other = Some x
 
--- the path of the first of these elements and those below them that breaks the rule, from the innermost step
--- outward
+-- the path of the first of these elements and those below them that breaks the rule
 unfoldable pub first_in : Rule → Place → Forest Step Key → Option (List Written)
 first_in rule outer leaf = None
 first_in rule outer (node step keys children others) =
@@ -117,9 +116,3 @@ first_in rule outer (node step keys children others) =
 abbrev pub first_below : Rule → Kind → Place → Tree Step Key → Option (List Written)
 first_below rule kind outer tree =
     cond (fails rule kind (entered tree.keys outer) tree.keys) (Some []) (first_in rule (entered tree.keys outer) tree.below)
-
-abbrev pub first_child : Rule → Place → Kind × Tree Step Key → Option (List Written)
-first_child rule outer child = first_below rule child.0 outer child.1
-
-abbrev pub first_at : Rule → Place → Step × Tree Step Key → Option (List Written)
-first_at rule outer element = named element.0.name (first_below rule element.0.kind outer element.1)

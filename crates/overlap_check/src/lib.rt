@@ -4,11 +4,9 @@
 #![tactic(auto)]
 
 mod checking;
-mod clash;
 mod fault;
-mod meeting;
+mod found;
 mod place;
-mod rule;
 mod telling;
 mod walk;
 

@@ -1,8 +1,10 @@
 ghost use Rattle.std.specs.Prelude.{◌≡◌, min};
-ghost use Rattle.overlap_check.specs.Walks.{stride_of, entered_by, device_place, width_of};
+ghost use Rattle.overlap_check.specs.Walks.{Alignment, Range};
+ghost use Rattle.overlap_check.specs.Walks.{device_place, entered_by, fails_group, fails_register, is_within, last_end, stride_of, width_of};
+ghost use Rattle.svd_model.specs.Checking.{is_size};
 
 use pac_base::Width;
-use svd_model::Dim;
+use svd_model::{Dim, Field};
 
 /// What all elements from the device down to one say of the registers and addresses there.
 #[derive(Clone, Copy)]
@@ -33,7 +35,7 @@ fn stride(step: u64) -> u64
 }
 
 /// The width of a register of that size: the least that holds it, and the greatest past 64 bits.
-pub fn width_of(size: u64) -> Width
+fn width_of(size: u64) -> Width
     ensures { result ≡ width_of size }
 {
     if size <= 8 {
@@ -89,4 +91,54 @@ impl Place {
             self.stride.min(stride(step))
         }
     }
+
+    /// Whether a register here has 1 to 64 bits.
+    pub fn is_sized(&self) -> bool
+        ensures { result ≡ is_size self.now.size }
+    {
+        1 <= self.size && self.size <= 64
+    }
+
+    /// Whether a peripheral or cluster here has a member past the addresses of 64 bits.
+    pub fn is_past(&self) -> bool
+        ensures { result ≡ fails_group Range self.now }
+    {
+        (1 << 64) <= self.last
+    }
+
+    /// Whether a register here ends past them.
+    pub fn is_register_past(&self) -> bool
+        ensures { result ≡ fails_register Range self.now }
+    {
+        (1 << 64) < self.last.saturating_add(width_of(self.size).bytes() as u128)
+    }
+
+    /// Whether the address of a register here is no multiple of its width in bytes.
+    pub fn is_uneven(&self) -> bool
+        ensures { result ≡ fails_register Alignment self.now }
+    {
+        let bytes = width_of(self.size).bytes();
+        self.first % bytes != 0 || self.stride < bytes
+    }
+
+    /// Whether each member of the field lies within a register here, and has a bit: no other ends behind the last.
+    pub fn has_within(&self, field: &Field) -> bool
+        ensures { result ≡ is_within self.now.size field.now.dim.count field.now.dim.step field.now.place }
+    {
+        let bits = width_of(self.size).bits() as u128;
+        1 <= field.place.width.unwrap_or(1) && last_end(field) <= bits
+    }
+}
+
+/// Where the last member of the field ends, in bits, or the greatest number of 128 bits where it is above that.
+fn last_end(field: &Field) -> u128
+    ensures { result ≡ last_end field.now.dim.count field.now.dim.step field.now.place }
+{
+    let offset = field.place.offset.unwrap_or(0);
+    let width = field.place.width.unwrap_or(1);
+    let others = field.dim.count.unwrap_or(1).saturating_sub(1);
+    let step = field.dim.step.unwrap_or(0);
+    offset
+        .saturating_add(width)
+        .saturating_add(others as u128 * step as u128)
 }

@@ -1,86 +1,50 @@
-ghost use Rattle.std.specs.Prelude.{◌≡◌, None, IfOk, reverse};
-ghost use Rattle.overlap_check.specs.Ruled.{broken_in, clashing_in, fault_in, overlap_in, place_fault_in};
+ghost use Rattle.std.specs.Prelude.{◌≡◌, None, IfOk, option_map};
+ghost use Rattle.overlap_check.specs.Ruled.{fault_in, first_kind, overlap_in, place_fault_in, told_clash};
 ghost use Rattle.svd_model.specs.Facts.{IsUnfolded};
 
-use crate::clash::clash_in_device;
 use crate::fault::{CheckFault, Policy};
-use crate::rule::Rule;
-use crate::walk::first_in_device;
+use crate::found::Clash;
+use crate::walk::found_in_device;
 use overlap_sweep::{Overlap, Shared, first_overlap};
-use pac_base::{NoMemory, Path, Seq, Step};
+use pac_base::{NoMemory, Path};
 use std::alloc::Global;
 use svd_model::Device;
 
-/// The path with its steps in the reverse order.
-fn turned(alloc: Global, inner: &Path) -> Result<Path, NoMemory>
-    ensures { IfOk result (λ made. made ≡ reverse inner.now) }
+/// The first of the kinds before overlaps of which one was found.
+fn place_fault(
+    width: Option<Path>,
+    range: Option<Path>,
+    alignment: Option<Path>,
+    fields: Option<Path>,
+) -> Option<CheckFault>
+    ensures { result ≡ first_kind width range alignment fields }
 {
-    let mut path = Seq::new(alloc);
-    for step in inner.as_slice().iter().rev() {
-        path.push(Step {
-            name: step.name.copy(alloc)?,
-            index: step.index,
-        })?;
+    if let Some(path) = width {
+        return Some(CheckFault::BadWidth { path });
     }
-    Ok(path)
-}
-
-/// The fault of an element of that path which breaks the rule.
-fn fault_at(rule: Rule, path: Path) -> CheckFault
-    ensures { result ≡ Rattle.overlap_check.specs.Ruled.fault_at rule path }
-{
-    match rule {
-        Rule::Width => CheckFault::BadWidth { path },
-        Rule::Range => CheckFault::AddressRange { path },
-        Rule::Alignment => CheckFault::Misaligned { path },
-        Rule::Fields => CheckFault::FieldRange { path },
+    if let Some(path) = range {
+        return Some(CheckFault::AddressRange { path });
     }
-}
-
-/// The first fault by a rule.
-#[tactic(auto, unfolding(crate::specs::Ruled::broken_in))]
-fn broken(alloc: Global, rule: Rule, device: &Device) -> Result<Option<CheckFault>, NoMemory>
-    ensures { IfOk result (λ found. found ≡ broken_in rule device.now) }
-{
-    match first_in_device(alloc, rule, device)? {
-        Some(inner) => Ok(Some(fault_at(rule, turned(alloc, &inner)?))),
-        None => Ok(None),
+    if let Some(path) = alignment {
+        return Some(CheckFault::Misaligned { path });
+    }
+    match fields {
+        Some(path) => Some(CheckFault::FieldRange { path }),
+        None => None,
     }
 }
 
-/// The first two siblings that have one accessor name.
-#[tactic(auto, unfolding(crate::specs::Ruled::clashing_in))]
-fn clashing(alloc: Global, device: &Device) -> Result<Option<CheckFault>, NoMemory>
-    ensures { IfOk result (λ found. found ≡ clashing_in device.now) }
+/// The fault of two siblings with one accessor name.
+fn clash_fault(clash: Option<Clash>) -> Option<CheckFault>
+    ensures { result ≡ option_map told_clash clash }
 {
-    match clash_in_device(alloc, device)? {
-        Some(clash) => Ok(Some(CheckFault::NameClash {
-            first: turned(alloc, &clash.first)?,
-            second: turned(alloc, &clash.second)?,
-        })),
-        None => Ok(None),
+    match clash {
+        Some(clash) => Some(CheckFault::NameClash {
+            first: clash.first,
+            second: clash.second,
+        }),
+        None => None,
     }
-}
-
-/// The first fault of the kinds before overlaps, one after the other.
-#[tactic(auto, unfolding(crate::specs::Ruled::place_fault_in))]
-fn place_fault(alloc: Global, device: &Device) -> Result<Option<CheckFault>, NoMemory>
-    ensures { IfOk result (λ found. found ≡ place_fault_in device.now) }
-{
-    let width = broken(alloc, Rule::Width, device)?;
-    if let Some(fault) = width {
-        return Ok(Some(fault));
-    }
-    let range = broken(alloc, Rule::Range, device)?;
-    if let Some(fault) = range {
-        return Ok(Some(fault));
-    }
-    let alignment = broken(alloc, Rule::Alignment, device)?;
-    if let Some(fault) = alignment {
-        return Ok(Some(fault));
-    }
-    let field = broken(alloc, Rule::Fields, device)?;
-    Ok(field)
 }
 
 /// The first overlap, where overlaps are asked for.
@@ -115,7 +79,8 @@ pub fn first_fault(
     requires { IsUnfolded device.now }
     ensures { IfOk result (λ found. found ≡ fault_in policy device.now) }
 {
-    let place = place_fault(alloc, device)?;
+    let found = found_in_device(alloc, device)?;
+    let place = place_fault(found.width, found.range, found.alignment, found.fields);
     if let Some(fault) = place {
         return Ok(Some(fault));
     }
@@ -123,5 +88,5 @@ pub fn first_fault(
     if let Some(fault) = overlap {
         return Ok(Some(fault));
     }
-    clashing(alloc, device)
+    Ok(clash_fault(found.clash))
 }

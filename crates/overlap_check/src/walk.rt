@@ -1,169 +1,124 @@
-ghost use Rattle.std.specs.Prelude.{◌≡◌, ◌++◌, ◌∷◌, [], IfOk, map};
-ghost use Rattle.svd_model.specs.Trees.{item_under, cluster_tree, child_tree, field_under, register_tree, peripheral_under, device_tree};
-ghost use Rattle.svd_model.specs.Steps.{cluster, register, peripheral};
+ghost use Rattle.std.specs.Prelude.{◌≡◌, [], cond, Some, IfOk, map};
+ghost use Rattle.svd_model.specs.Trees.{item_under, child_tree, field_under, register_tree, peripheral_under, device_tree};
+ghost use Rattle.svd_model.specs.Steps.{register};
 ghost use Rattle.svd_rows.specs.Forest.{siblings};
-ghost use Rattle.overlap_check.specs.Walks.{told_name, named, first_in, first_below, first_at, first_child};
+ghost use Rattle.overlap_check.specs.Found.{found_below, found_child, found_in, group_found};
+ghost use Rattle.overlap_check.specs.Walks.{device_place};
 
+use crate::found::{Found, note_field, note_meeting};
 use crate::place::Place;
-use crate::rule::Rule;
 use indexmap::IndexMap;
-use pac_base::{Name, NoMemory, Path, Seq, Step};
+use pac_base::{NoMemory, Path, Seq};
 use std::alloc::Global;
-use svd_model::{Child, Cluster, Device, Field, Item, Peripheral, Register, Sibling};
+use svd_model::{Child, Device, Field, Item, Peripheral, Register, Sibling};
 
-/// The path, whose steps stand from the innermost to the outermost, with a further step round it.
-pub fn round(alloc: Global, mut inner: Path, name: &Name) -> Result<Path, NoMemory>
-    ensures { IfOk result (λ made. made ≡ inner ++ told_name name.now ∷ []) }
+/// The path to an element from itself, where it breaks a rule; else that of what was found below it.
+fn own_or(alloc: Global, fails: bool, below: Option<Path>) -> Option<Path>
+    ensures { result ≡ cond fails (Some []) below }
 {
-    inner.push(Step {
-        name: name.copy(alloc)?,
-        index: None,
-    })?;
-    Ok(inner)
+    if fails { Some(Seq::new(alloc)) } else { below }
 }
 
-/// The path of what was found below the element of that name.
-fn found_round(alloc: Global, found: Option<Path>, name: &Name) -> Result<Option<Path>, NoMemory>
-    ensures { IfOk result (λ made. made ≡ named name.now found) }
-{
-    match found {
-        Some(inner) => Ok(Some(round(alloc, inner, name)?)),
-        None => Ok(None),
-    }
-}
-
-fn first_in_fields(
+fn found_in_fields(
     alloc: Global,
-    rule: Rule,
     fields: &IndexMap<Sibling, Field>,
     outer: &Place,
-) -> Result<Option<Path>, NoMemory>
-    ensures { IfOk result (λ found. found ≡ first_in rule outer.now (siblings (map field_under fields.now.entries))) }
+) -> Result<Found, NoMemory>
+    ensures { IfOk result (λ found. found ≡ found_in outer.now [] (siblings (map field_under fields.now.entries))) }
 {
+    let mut found = Found::nothing();
+    let mut seen = IndexMap::new(alloc);
     for (key, field) in fields {
-        if rule.fails_field(outer, field) {
-            return found_round(alloc, Some(Seq::new(alloc)), &key.name);
-        }
+        note_meeting(alloc, &mut seen, &key.name, &mut found.clash)?;
+        note_field(alloc, &mut found.fields, !outer.has_within(field), &key.name)?;
     }
-    Ok(None)
+    Ok(found)
 }
 
-fn first_in_register(
+fn found_in_register(
     alloc: Global,
-    rule: Rule,
     element: &Register,
     outer: &Place,
-) -> Result<Option<Path>, NoMemory>
-    ensures { IfOk result (λ found. found ≡ first_below rule register outer.now (register_tree element.now)) }
+) -> Result<Found, NoMemory>
+    ensures { IfOk result (λ found. found ≡ found_below register outer.now (register_tree element.now)) }
 {
     let place = outer.enter(&element.dim, element.offset, element.props.size);
-    if rule.fails_register(&place) {
-        return Ok(Some(Seq::new(alloc)));
-    }
-    first_in_fields(alloc, rule, &element.fields, &place)
+    let below = found_in_fields(alloc, &element.fields, &place)?;
+    Ok(Found {
+        width: own_or(alloc, !place.is_sized(), below.width),
+        range: own_or(alloc, place.is_register_past(), below.range),
+        alignment: own_or(alloc, place.is_uneven(), below.alignment),
+        fields: below.fields,
+        clash: below.clash,
+    })
 }
 
+/// What is found in a peripheral or cluster of this place.
 #[cycle(walk)]
-fn first_in_items(
-    alloc: Global,
-    rule: Rule,
-    items: &[Item],
-    outer: &Place,
-) -> Result<Option<Path>, NoMemory>
-    ensures { IfOk result (λ found. found ≡ first_in rule outer.now (siblings (map item_under items.now))) }
+fn found_in_group(alloc: Global, children: &[Item], place: &Place) -> Result<Found, NoMemory>
+    ensures { IfOk result (λ found. found ≡ group_found place.now (siblings (map item_under children.now))) }
 {
-    for item in items {
-        let found = first_in_item(alloc, rule, item, outer)?;
-        if let Some(path) = found {
-            return Ok(Some(path));
-        }
-    }
-    Ok(None)
+    let below = found_in_items(alloc, children, place)?;
+    Ok(Found {
+        width: below.width,
+        range: own_or(alloc, place.is_past(), below.range),
+        alignment: below.alignment,
+        fields: below.fields,
+        clash: below.clash,
+    })
 }
 
 #[cycle(walk)]
-fn first_in_item(
-    alloc: Global,
-    rule: Rule,
-    item: &Item,
-    outer: &Place,
-) -> Result<Option<Path>, NoMemory>
-    ensures { IfOk result (λ found. found ≡ first_at rule outer.now (item_under item.now)) }
-{
-    let found = first_in_child(alloc, rule, &item.child, outer)?;
-    found_round(alloc, found, &item.key.name)
-}
-
-#[cycle(walk)]
-fn first_in_child(
-    alloc: Global,
-    rule: Rule,
-    child: &Child,
-    outer: &Place,
-) -> Result<Option<Path>, NoMemory>
-    ensures { IfOk result (λ found. found ≡ first_child rule outer.now (child_tree child.now)) }
+fn found_in_child(alloc: Global, child: &Child, outer: &Place) -> Result<Found, NoMemory>
+    ensures { IfOk result (λ found. found ≡ found_child outer.now (child_tree child.now)) }
 {
     match child {
-        Child::Cluster(cluster) => first_in_cluster(alloc, rule, cluster, outer),
-        Child::Register(register) => first_in_register(alloc, rule, register, outer),
+        Child::Cluster(cluster) => {
+            let place = outer.enter(&cluster.dim, cluster.offset, cluster.props.size);
+            found_in_group(alloc, cluster.children.as_slice(), &place)
+        }
+        Child::Register(register) => found_in_register(alloc, register, outer),
     }
 }
 
 #[cycle(walk)]
-fn first_in_cluster(
-    alloc: Global,
-    rule: Rule,
-    element: &Cluster,
-    outer: &Place,
-) -> Result<Option<Path>, NoMemory>
-    ensures { IfOk result (λ found. found ≡ first_below rule cluster outer.now (cluster_tree element.now)) }
+fn found_in_items(alloc: Global, items: &[Item], outer: &Place) -> Result<Found, NoMemory>
+    ensures { IfOk result (λ found. found ≡ found_in outer.now [] (siblings (map item_under items.now))) }
 {
-    let place = outer.enter(&element.dim, element.offset, element.props.size);
-    if rule.fails_group(&place) {
-        return Ok(Some(Seq::new(alloc)));
+    let mut found = Found::nothing();
+    let mut seen = IndexMap::new(alloc);
+    for item in items {
+        note_meeting(alloc, &mut seen, &item.key.name, &mut found.clash)?;
+        let below = found_in_child(alloc, &item.child, outer)?;
+        found.note(alloc, &below, &item.key.name)?;
     }
-    first_in_items(alloc, rule, element.children.as_slice(), &place)
+    Ok(found)
 }
 
-fn first_in_peripheral(
+fn found_in_peripherals(
     alloc: Global,
-    rule: Rule,
-    key: &Sibling,
-    element: &Peripheral,
-    outer: &Place,
-) -> Result<Option<Path>, NoMemory>
-    ensures { IfOk result (λ found. found ≡ first_at rule outer.now (peripheral_under (key.now, element.now))) }
-{
-    let place = outer.enter(&element.dim, element.base, element.props.size);
-    if rule.fails_group(&place) {
-        return found_round(alloc, Some(Seq::new(alloc)), &key.name);
-    }
-    let found = first_in_items(alloc, rule, element.children.as_slice(), &place)?;
-    found_round(alloc, found, &key.name)
-}
-
-fn first_in_peripherals(
-    alloc: Global,
-    rule: Rule,
     peripherals: &IndexMap<Sibling, Peripheral>,
     outer: &Place,
-) -> Result<Option<Path>, NoMemory>
-    ensures { IfOk result (λ found. found ≡ first_in rule outer.now (siblings (map peripheral_under peripherals.now.entries))) }
+) -> Result<Found, NoMemory>
+    ensures { IfOk result (λ found. found ≡ found_in outer.now [] (siblings (map peripheral_under peripherals.now.entries))) }
 {
+    let mut found = Found::nothing();
+    let mut seen = IndexMap::new(alloc);
     for (key, peripheral) in peripherals {
-        let found = first_in_peripheral(alloc, rule, key, peripheral, outer)?;
-        if let Some(path) = found {
-            return Ok(Some(path));
-        }
+        note_meeting(alloc, &mut seen, &key.name, &mut found.clash)?;
+        let place = outer.enter(&peripheral.dim, peripheral.base, peripheral.props.size);
+        let below = found_in_group(alloc, peripheral.children.as_slice(), &place)?;
+        found.note(alloc, &below, &key.name)?;
     }
-    Ok(None)
+    Ok(found)
 }
 
-/// The first element of the device that breaks the rule, in document order. The steps of its path stand from the
-/// innermost to the outermost.
-pub fn first_in_device(alloc: Global, rule: Rule, device: &Device) -> Result<Option<Path>, NoMemory>
-    ensures { IfOk result (λ found. found ≡ first_in rule (Rattle.overlap_check.specs.Walks.device_place device.now.props.size) (device_tree device.now).below) }
+/// The first element of the device that breaks each rule, and the first two siblings that have one accessor name: those
+/// whose second one stands first in the document, and of these the first.
+#[tactic(auto, unfolding(svd_model::specs::Trees::device_tree))]
+pub fn found_in_device(alloc: Global, device: &Device) -> Result<Found, NoMemory>
+    ensures { IfOk result (λ found. found ≡ found_in (device_place device.now.props.size) [] (device_tree device.now).below) }
 {
     let place = Place::device(device.props.size);
-    first_in_peripherals(alloc, rule, &device.peripherals, &place)
+    found_in_peripherals(alloc, &device.peripherals, &place)
 }

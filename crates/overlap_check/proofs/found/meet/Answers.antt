@@ -5,7 +5,7 @@ use Rattle.indexmap.proofs.CallerLemmas.{insert_entry-new}
 use Rattle.std.specs.Str.{bytes_eq}
 use Rattle.overlap_check.specs.Meetings.{met, under_name}
 use Rattle.overlap_check.proofs.LookedUp.{looked-up}
-use Rattle.overlap_check.proofs.meeting.meet.Goals as goal
+use Rattle.overlap_check.proofs.found.meet.Goals as goal
 
 pub returns-in-Some-clause-earlier : goal.returns-in-Some-clause-earlier
 unfolding met

@@ -1,6 +1,0 @@
--- What is made and what is left, reversed, are the whole path reversed.
-use Rattle.std.proofs.Common.{◌≡◌, ◌++◌, reverse}
-use Rattle.overlap_check.proofs.telling.turned.Given as goal
-
-abbrev pub invariant-loop-step : goal.invariant-loop-step
-invariant-loop-step l = l.path ++ reverse l.step-iterator.iter.rest.now ≡ reverse l.inner

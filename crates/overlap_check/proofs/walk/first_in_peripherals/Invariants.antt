@@ -1,9 +1,0 @@
--- The first of the peripherals that are left is the first of all.
-use Rattle.std.proofs.Common.{◌≡◌, map}
-use Rattle.overlap_check.specs.Walks.{first_in}
-use Rattle.svd_model.specs.Trees.{peripheral_under}
-use Rattle.svd_rows.specs.Forest.{siblings}
-use Rattle.overlap_check.proofs.walk.first_in_peripherals.Given as goal
-
-abbrev pub invariant-loop-key : goal.invariant-loop-key
-invariant-loop-key l = first_in l.rule l.outer (siblings (map peripheral_under l.peripherals.entries)) ≡ first_in l.rule l.outer (siblings (map peripheral_under l.key-iterator))
